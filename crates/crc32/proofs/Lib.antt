@@ -1,0 +1,3 @@
+pub mod Xor
+pub mod Register
+pub mod ByTable

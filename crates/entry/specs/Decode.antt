@@ -1,0 +1,77 @@
+-- What a payload is decoded to. "Decoding fails on another kind, on a length beyond what is left, or on a key that isn't
+-- UTF-8. Bytes left over after a good entry are allowed."
+-- Assumes nothing.
+use Prim.Native.Nat.{ℕ, _+_, _-_}
+use mathlib.Core.Bool.{cond}
+use mathlib.Core.List.{List}
+use lib.Dec.{leb}
+use lib.ListN.{length, take, drop}
+use Rattle.fields.specs.Le.{numAt}
+use Rattle.utf8.specs.Grammar.{isUtf8}
+use Rattle.payload.specs.Kind.{byKind}
+use Rattle.payload.specs.Content.{Content, insert, update, delete, commit, abort}
+use Rattle.entry.specs.declared.Place.{Place}
+use Rattle.entry.specs.declared.WalEntry.{WalEntry}
+use Rattle.entry.specs.declared.WalEntry.the-variants.{Insert, Update, Delete, Commit, Abort}
+use Rattle.entry.specs.declared.decoding.Decoded.{Decoded}
+use Rattle.entry.specs.declared.decoding.Decoded.the-variants.{Refused, Entry}
+use Rattle.entry.specs.declared.decoding.Part.{Part}
+use Rattle.entry.specs.declared.decoding.Part.the-variants.{Fails, At}
+
+-- the bytes at a place, and the place's end
+abbrev pub bytesAt : List ℕ → Place → List ℕ
+bytesAt s p = take (p .len) (drop (p .start) s)
+
+abbrev pub endOf : Place → ℕ
+endOf p = p .start + p .len
+
+-- "A key or value is an 8-byte length and its bytes."
+unfoldable pub partAt : List ℕ → ℕ → Part
+partAt s at =
+    cond (leb 8 (length s - at))
+    (cond (leb (numAt at 8 s) (length s - at - 8)) (At (record { start = at + 8; len = numAt at 8 s })) Fails)
+    Fails
+
+abbrev pub ifUtf8 : List ℕ → Part → Part
+ifUtf8 s Fails = Fails
+ifUtf8 s (At p) = cond (isUtf8 (bytesAt s p)) (At p) Fails
+
+unfoldable pub keyAt : List ℕ → ℕ → Part
+keyAt s at = ifUtf8 s (partAt s at)
+
+-- a part that fails refuses the whole
+abbrev pub then : Part → (Place → Decoded) → Decoded
+then Fails go = Refused
+then (At p) go = go p
+
+-- "Insert key, value; Update key, old value, new value; Delete key, old value", behind the 20 bytes of kind, tx number and timestamp
+unfoldable pub insertAt : List ℕ → ℕ → ℕ → Decoded
+insertAt s tx time =
+    then (keyAt s 20) (λ key. then (partAt s (endOf key)) (λ value. Entry (Insert tx time key value) (endOf value)))
+
+unfoldable pub updateAt : List ℕ → ℕ → ℕ → Decoded
+updateAt s tx time =
+    then (keyAt s 20) (λ key. then (partAt s (endOf key)) (λ old. then (partAt s (endOf old)) (λ new. Entry (Update tx time key old new) (endOf new))))
+
+unfoldable pub deleteAt : List ℕ → ℕ → ℕ → Decoded
+deleteAt s tx time =
+    then (keyAt s 20) (λ key. then (partAt s (endOf key)) (λ old. Entry (Delete tx time key old) (endOf old)))
+
+abbrev pub bodyAt : List ℕ → (kind tx time : ℕ) → Decoded
+bodyAt s kind tx time =
+    byKind kind (insertAt s tx time) (updateAt s tx time) (deleteAt s tx time)
+    (Entry (Commit tx time) 20)
+    (Entry (Abort tx time) 20)
+    Refused
+
+-- "a 4-byte kind, tx number, timestamp; then" the parts that the kind has
+unfoldable pub decodeOf : List ℕ → Decoded
+decodeOf s = cond (leb 20 (length s)) (bodyAt s (numAt 0 4 s) (numAt 4 8 s) (numAt 12 8 s)) Refused
+
+-- what a decoded entry says, read off its payload
+unfoldable pub contentAt : List ℕ → WalEntry → Content
+contentAt s (Insert tx time key value) = insert (bytesAt s key) (bytesAt s value)
+contentAt s (Update tx time key old new) = update (bytesAt s key) (bytesAt s old) (bytesAt s new)
+contentAt s (Delete tx time key old) = delete (bytesAt s key) (bytesAt s old)
+contentAt s (Commit tx time) = commit
+contentAt s (Abort tx time) = abort

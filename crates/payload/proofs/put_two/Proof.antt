@@ -1,0 +1,51 @@
+-- `put_two` meets its contract: each store goes on where the one before it ended.
+-- Assumes nothing.
+use Rattle.payload.proofs.Laws.{length-fixed, length-part, stored-fixed, stored-part, put-all, put-nothing}
+use mathlib.Core.List.{append-assoc}
+use lib.ListN.{length-append}
+use native.Mathlib.Omega.{arith}
+use borrow.Author.Needs.{needs}
+use Rattle.payload.proofs.put_two.Statement.{statement}
+use Rattle.payload.proofs.put_two.Tie as tie
+
+add-n : tie.Need-add-n
+add-n c = search needs
+
+add-n-2 : tie.Need-add-n-2
+add-n-2 c = search needs
+
+returns : tie.Need-returns
+returns c = put-nothing _ _ (simp (length-append, length-fixed, length-part) (omega arith))
+
+put-fixed-requires : tie.Need-put-fixed-requires
+put-fixed-requires c κs = search needs
+
+put-part-requires : tie.Need-put-part-requires
+put-part-requires c κs = search needs
+
+put-part-requires-2 : tie.Need-put-part-requires-2
+put-part-requires-2 c κs = omega (arith, length-part (c .before .before .before .before .before .before .before .before .before .before .before .before .before .args .key .now))
+
+same-length : tie.Need-same-length
+same-length c = search needs
+
+returns-2 : tie.Need-returns-2
+returns-2 c =
+    let a = c .before .before .before .before .before .before .before .before .before .before .before .before .before .before .before .before .args in
+    rw (← append-assoc)
+    (put-all _ _ _ _
+    (stored-part (stored-part (stored-fixed (a .kind) (a .tx-id) (a .timestamp) (c .before .before .before .before .before .before .before .before .before .before .put-fixed .ensures)) (c .before .before .before .before .before .before .put-part .ensures)) (c .before .before .put-part2 .ensures))
+    (simp (length-append, length-fixed, length-part) (omega arith)))
+
+pub put-two-spec : {M : Type 1} → statement M
+put-two-spec =
+    tie.close
+    (tie.spec
+    add-n
+    add-n-2
+    returns
+    put-fixed-requires
+    put-part-requires
+    put-part-requires-2
+    same-length
+    returns-2)
