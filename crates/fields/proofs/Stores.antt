@@ -1,17 +1,17 @@
 -- What a store writes: `sets l i vs` of the kit puts vs into l from i on, and leaves out what has no place.
 -- Assumes nothing.
 use mathlib.Core.Path.{_≡_, refl, sym, ap, _∙_}
-use mathlib.Core.List.{List, [], _∷_, _++_, append-assoc, append-nil}
+use mathlib.Core.List.{List, [], _∷_, _++_, append-nil}
 use Prim.Native.Nat.{ℕ, zero, suc, _+_, _-_, _^_, _<_, _≤_, min}
 use native.Mathlib.Nat.{add-zero, zero-add, add-suc}
 use native.Mathlib.Numerals.{add-one}
 use native.Mathlib.Omega.{arith}
-use lib.ListN.{length, getD, take, drop, set, replicate, length-set, length-append, drop-of-length-le, take-append-drop}
-use lib.Seq.{sets, set-out, drop-cons, take-nil, sets-eq, length-take-le, drop-at}
+use lib.ListN.{length, getD, take, drop, set, replicate, length-set, length-drop, drop-of-length-le}
+use lib.Seq.{sets, set-out, drop-cons, take-nil, sets-eq, take-set-le, drop-set-add, drop-set-lt}
 use borrow.Author.Tests.{leb-true, leb-false}
 use lib.Dec.{leb}
-use Rattle.fields.specs.Le.{leBytes, numAt}
-use Rattle.fields.proofs.Numbers.{length-bytes, num-front, num-skip, num-within}
+use Rattle.fields.specs.Le.{leOf, leBytes, numAt}
+use Rattle.fields.proofs.Numbers.{length-bytes, num-front}
 use Rattle.fields.proofs.Cases.{caseB}
 
 pub sets-out : (l vs : List ℕ) (i : ℕ) → length l ≤ i → sets l i vs ≡ l
@@ -56,32 +56,33 @@ store-turn l vs at i v h e = rw (← e, add-one, add-suc, drop-cons vs i 0 h)
 pub store-end : (l vs : List ℕ) (at i : ℕ) → length vs ≤ i → sets l (at + i) (drop i vs) ≡ l
 store-end l vs at i h = rw (drop-of-length-le vs h)
 
--- a field that was stored is read back, and one that ends before it, or starts behind it, is as it was
-module _ (s : List ℕ) (at w v : ℕ) (fits : at + w ≤ length s) where
-  before : length (take at s) ≡ at
-  before = length-take-le at s (omega arith)
+-- ---- what a store leaves of the parts of a list
 
-  parts : sets s at (leBytes w v) ≡ take at s ++ (leBytes w v ++ drop (at + w) s)
-  parts =
-      rw (sets-eq (leBytes w v) s at (rw length-bytes fits), length-bytes)
-      (append-assoc (take at s) (leBytes w v) (drop (at + w) s))
+-- a part before it is as it was, one that begins before it has the same store, and one behind it is as it was
+pub take-sets : (n : ℕ) (l vs : List ℕ) (i : ℕ) → n ≤ i → take n (sets l i vs) ≡ take n l
+take-sets n l [] i h = refl
+take-sets n l (v ∷ vs) i h = take-sets n (set l i v) vs (suc i) (omega arith) ∙ take-set-le n l i v h
 
-  pub num-stored : v < 256 ^ w → numAt at w (sets s at (leBytes w v)) ≡ v
-  num-stored h =
-      rw (parts, drop-at (take at s) (leBytes w v ++ drop (at + w) s) at before) (num-front w v (drop (at + w) s) h)
+pub drop-sets : (n : ℕ) (l vs : List ℕ) (i : ℕ) → drop n (sets l (n + i) vs) ≡ sets (drop n l) i vs
+drop-sets n l [] i = refl
+drop-sets n l (v ∷ vs) i = rw (← add-suc, drop-sets n (set l (n + i) v) vs (suc i), drop-set-add)
 
-  pub num-before : (a n : ℕ) → a + n ≤ at → numAt a n (sets s at (leBytes w v)) ≡ numAt a n s
-  num-before a n h =
-      let k : a + n ≤ length (take at s) = omega (arith, before) in
-      ap (numAt a n) parts
-      ∙ num-within (take at s) (leBytes w v ++ drop (at + w) s) a n k
-      ∙ sym (num-within (take at s) (drop at s) a n k)
-      ∙ ap (numAt a n) (take-append-drop at s)
+pub behind-sets : (n : ℕ) (l vs : List ℕ) (i : ℕ) → i + length vs ≤ n → drop n (sets l i vs) ≡ drop n l
+behind-sets n l [] i h = refl
+behind-sets n l (v ∷ vs) i h = behind-sets n (set l i v) vs (suc i) (omega arith) ∙ drop-set-lt n l i v (omega arith)
 
-  pub num-behind : (k n : ℕ) → numAt (at + w + k) n (sets s at (leBytes w v)) ≡ numAt (at + w + k) n s
-  num-behind k n =
-      let stored : length (take at s ++ leBytes w v) ≡ at + w = rw (length-append, before, length-bytes) in
-      ap (numAt (at + w + k) n) (parts ∙ sym (append-assoc (take at s) (leBytes w v) (drop (at + w) s)))
-      ∙ num-skip (take at s ++ leBytes w v) (drop (at + w) s) (at + w) k n stored
-      ∙ sym (num-skip (take (at + w) s) (drop (at + w) s) (at + w) k n (length-take-le (at + w) s fits))
-      ∙ ap (numAt (at + w + k) n) (take-append-drop (at + w) s)
+-- so a field that was stored is read back, and one that ends before the store, or starts behind it, is as it was
+pub num-stored : (l : List ℕ) (at w v : ℕ) → at + w ≤ length l → v < 256 ^ w → numAt at w (sets l at (leBytes w v)) ≡ v
+num-stored l at w v fits h =
+    let e : drop at (sets l at (leBytes w v)) ≡ sets (drop at l) 0 (leBytes w v) =
+    rw add-zero at (drop-sets at l (leBytes w v) 0) in
+    let f : length (leBytes w v) ≤ length (drop at l) = rw (length-bytes, length-drop) (omega arith) in
+    rw (e, sets-front (drop at l) (leBytes w v) f) (num-front w v (drop (length (leBytes w v)) (drop at l)) h)
+
+pub num-before : (l vs : List ℕ) (at w i : ℕ) → at + w ≤ i → numAt at w (sets l i vs) ≡ numAt at w l
+num-before l vs at w i h =
+    let e : i ≡ at + (i - at) = omega arith in
+    rw e (ap (λ (s : List ℕ). leOf (take w s)) (drop-sets at l vs (i - at)) ∙ ap leOf (take-sets w (drop at l) vs (i - at) (omega arith)))
+
+pub num-behind : (l vs : List ℕ) (at w i : ℕ) → i + length vs ≤ at → numAt at w (sets l i vs) ≡ numAt at w l
+num-behind l vs at w i h = ap (λ (s : List ℕ). leOf (take w s)) (behind-sets at l vs i h)

@@ -1,4 +1,4 @@
-// Runs published vectors, and vectors of the libraries that the Rust leans on, against the crates of this floor. A line for each
+// Runs published vectors, and vectors of the libraries that the Rust leans on, against the code. A line for each
 // group says how many held of how many were run.
 mod allowed;
 mod checksums;
@@ -12,6 +12,7 @@ mod tally;
 mod texts;
 mod undecodable;
 mod updates;
+mod writing;
 
 // Three for each payload: it is written, it is read, and its header is right.
 fn payloads(t: tally::Tally) -> tally::Tally {
@@ -24,6 +25,7 @@ fn main() {
     texts::accepted(none).print(b"utf-8 accepted ");
     texts::refused(none).print(b"utf-8 refused ");
     readings::all(none).print(b"entry readings ");
+    writing::all(none).print(b"writer readings ");
     payloads(none).print(b"bincode payloads ");
     allowed::all(none).print(b"bincode only read ");
     undecodable::all(none).print(b"bincode refused ");

@@ -3,8 +3,22 @@
 use super::coded;
 use super::tally::Tally;
 
+// An insert of number 1 with key `a` and one value byte, then its commit: 51 and 33 bytes.
+pub(crate) const LOG: [u8; 84] = *b"\x26\x00\x00\x00\x00\x00\x00\x00\x84\x8f\x22\xce\x01\
+    \x00\x00\x00\x00\
+    \x01\x00\x00\x00\x00\x00\x00\x00\
+    \x05\x00\x00\x00\x00\x00\x00\x00\
+    \x01\x00\x00\x00\x00\x00\x00\x00\
+    a\
+    \x01\x00\x00\x00\x00\x00\x00\x00\
+    \x09\
+    \x14\x00\x00\x00\x00\x00\x00\x00\xb2\x49\xf4\x46\x01\
+    \x03\x00\x00\x00\
+    \x01\x00\x00\x00\x00\x00\x00\x00\
+    \x05\x00\x00\x00\x00\x00\x00\x00";
+
 // The front of so many bytes.
-fn front(s: &[u8], n: usize) -> &[u8] {
+pub(crate) fn front(s: &[u8], n: usize) -> &[u8] {
     if n <= s.len() { &s[0..n] } else { s }
 }
 
@@ -60,22 +74,7 @@ fn insert_and_commit(t: Tally, log: &[u8]) -> Tally {
 
 // "Insert number 1 of key `a`, one value byte: payload 38, entry 51. Followed by its commit, 84 bytes."
 fn log_of_two(t: Tally) -> Tally {
-    let t = t.with(fits(0, 1, 0, 1, 38));
-    insert_and_commit(
-        t,
-        b"\x26\x00\x00\x00\x00\x00\x00\x00\x84\x8f\x22\xce\x01\
-        \x00\x00\x00\x00\
-        \x01\x00\x00\x00\x00\x00\x00\x00\
-        \x05\x00\x00\x00\x00\x00\x00\x00\
-        \x01\x00\x00\x00\x00\x00\x00\x00\
-        a\
-        \x01\x00\x00\x00\x00\x00\x00\x00\
-        \x09\
-        \x14\x00\x00\x00\x00\x00\x00\x00\xb2\x49\xf4\x46\x01\
-        \x03\x00\x00\x00\
-        \x01\x00\x00\x00\x00\x00\x00\x00\
-        \x05\x00\x00\x00\x00\x00\x00\x00",
-    )
+    insert_and_commit(t.with(fits(0, 1, 0, 1, 38)), &LOG)
 }
 
 // "Key of 64 and value of 252 fit; 65 and 253 are refused."

@@ -1,0 +1,4 @@
+pub mod Lent
+pub mod Record
+pub mod Rule
+pub mod Examples
