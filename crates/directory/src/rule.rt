@@ -3,6 +3,8 @@ use crate::lent::Lent;
 use crate::record::SegmentRecord;
 use refusal::Refusal;
 ghost use mathlib.Core.Path.{_≡_};
+ghost use Prim.Native.Nat.{_-_, _≤_};
+ghost use lib.Dec.{leb};
 ghost use Rattle.directory.specs.Rule.{liesOf, followsOf, directoryRule, testOf};
 
 // What a record comes after: no segment, or the id and the end of the one before it.
@@ -16,6 +18,14 @@ pub enum Tested {
     Sound,
 }
 
+// Whether so many bytes from `start` lie in the area: held against what is left of it, since a sum could wrap.
+fn has(area: u64, start: u64, length: u64) -> bool
+    requires { ⌜ start ≤ area ⌝ }
+    ensures { λ r. ⌜ r ≡ leb length (area - start) ⌝ }
+{
+    length <= area - start
+}
+
 // Whether a segment starts at or after `end`, and its own end lies in the area.
 fn lies(area: u64, end: u64, segment: SegmentRecord) -> bool
     ensures { λ r. ⌜ r ≡ liesOf area end segment ⌝ }
@@ -26,7 +36,7 @@ fn lies(area: u64, end: u64, segment: SegmentRecord) -> bool
     if area < segment.start {
         return false;
     }
-    segment.length <= area - segment.start
+    has(area, segment.start, segment.length)
 }
 
 // Whether a record may come after what stands before it.
