@@ -24,10 +24,7 @@ length-parts id = rw (length-append (prefix ++ padded 8 (digitsOf id)) suffix, l
 pub width-most : (id : ℕ) → id < 2 ^ 64 → length (padded 8 (digitsOf id)) ≤ 20
 width-most id h = omega (arith, length-padded 8 (digitsOf id), digits-most 19 id (omega arith))
 
--- a name has 16 bytes or more, and 28 at most
-pub name-least : (id : ℕ) → 16 ≤ length (nameOf id)
-name-least id = omega (arith, length-parts id, length-padded 8 (digitsOf id))
-
+-- a name has 28 bytes at most
 pub name-length : (id : ℕ) → id < 2 ^ 64 → length (nameOf id) ≤ 28
 name-length id h = omega (arith, length-parts id, width-most id h)
 

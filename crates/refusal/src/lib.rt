@@ -1,4 +1,5 @@
-// Document 01's refusals. All calls share this enum, and every promise states a refusal by its number.
+// Document 01's refusals. All calls share this enum. The calls' promises state a refusal by its number; the test of the
+// directory, which they share, hands the refusal itself on.
 ghost use mathlib.Core.Path.{_≡_};
 ghost use Rattle.refusal.specs.Number.{numberOf};
 

@@ -13,7 +13,7 @@ use lib.Seq.{sets}
 use Rattle.fields.specs.Le.{Bytes}
 use Rattle.fields.proofs.Numbers.{bytes-drop}
 use Rattle.fields.proofs.Cases.{caseB, tests}
-use Rattle.refusal.specs.declared.Refusal.the-variants.{NoNextSegmentId, NoRoom}
+use Rattle.refusal.specs.declared.Refusal.the-variants.{NoRoom}
 use Rattle.directory.specs.Record.{recordAt, recordBytes, recordsOf, endOf}
 use Rattle.directory.specs.Rule.{testOf, afterRecord, lastOf, newSegment}
 use Rattle.directory.specs.declared.record.SegmentRecord.{SegmentRecord}
@@ -25,7 +25,8 @@ use Rattle.directory.specs.declared.rule.Tested.the-variants as Test
 use Rattle.directory.proofs.Records.{record-held}
 use Rattle.directory.proofs.Rules.{follows-so, last-record}
 use Rattle.directory.proofs.Sound.{sound-says, sound-ends, sound-stored, sound-new, sound-grown}
-use Rattle.segment.specs.Plan.{noNextId, nextOf, segmentAfter, newSegmentOf, behindOf, behindNew, planOf, writeBehind, lastUsed}
+use Rattle.segment.specs.Plan.{noNextId, lackOf, nextBy, nextOf, segmentAfter, newSegmentOf, behindOf, behindNew, planOf, writeBehind, lastUsed}
+use Rattle.segment.specs.declared.plan.Lack.the-variants.{Nothing}
 use Rattle.segment.specs.declared.plan.NewSegment.{NewSegment}
 use Rattle.segment.specs.declared.plan.NewSegment.the-variants.{Record}
 use Rattle.segment.specs.declared.plan.NewSegment.the-variants as New
@@ -39,11 +40,15 @@ pub record HasNext (last : Last) (used records : ℕ) : Type 0 where
   pub id : noNextId last ≡ false
   pub unused : used < records
 
+pub lacks-nothing : (noId noRecord : Bool) → lackOf noId noRecord ≡ Nothing → noId ≡ false
+lacks-nothing true noRecord e = let z : _≡_ {A = ℕ} 0 1 = cc in absurd (omega arith)
+lacks-nothing false noRecord e = refl
+
 next-says : (last : Last) (used records : ℕ) (s : SegmentRecord) → nextOf last used records ≡ Record s → HasNext last used records × (s ≡ newSegment last)
 unfolding nextOf
 next-says last used records s e = told (noNextId last) refl (leb records used) refl e
   where
-    told : (p : Bool) → noNextId last ≡ p → (q : Bool) → leb records used ≡ q → cond p (New.Refused NoNextSegmentId) (cond q (New.Refused NoRoom) (Record (newSegment last))) ≡ Record s → HasNext last used records × (s ≡ newSegment last)
+    told : (p : Bool) → noNextId last ≡ p → (q : Bool) → leb records used ≡ q → nextBy (lackOf p q) last ≡ Record s → HasNext last used records × (s ≡ newSegment last)
     told true f q g e = let z : _≡_ {A = ℕ} 0 1 = cc in absurd (omega arith)
     told false f true g e = let z : _≡_ {A = ℕ} 0 1 = cc in absurd (omega arith)
     told false f false g e = (record { id = f; unused = omega (arith, tests) }, cc)

@@ -1,15 +1,20 @@
--- Worked examples of the plan, by computation.
+-- Worked examples of the plan and of the writer's state, by computation.
 -- Assumes nothing.
 use mathlib.Core.Path.{_≡_, refl}
 use mathlib.Core.Bool.{true, false}
 use mathlib.Core.List.{List, _++_}
+use mathlib.Core.Option.{some}
 use Prim.Native.Nat.{ℕ, _-_, _^_}
+use lib.ListN.{replicate}
 use Rattle.fields.specs.Le.{leOf, leBytes}
 use Rattle.refusal.specs.declared.Refusal.the-variants.{InvalidDirectory, NoNextSegmentId, NoRoom}
 use Rattle.directory.specs.Lent.{fitsOf}
 use Rattle.directory.specs.Record.{recordAt, recordBytes, recordsOf}
 use Rattle.directory.specs.Rule.{liesOf, followsOf, ruleFrom, directoryRule, testOf, lastOf, newSegment}
 use Rattle.directory.specs.declared.rule.Tested.the-variants as Test
+use Rattle.payload.specs.Content.{commit, fixedBytes, payloadOf, wellFormed}
+use Rattle.segment.specs.Answer.{written}
+use Rattle.segment.specs.Writing.{fresh, counted, refusedAs, writtenOf, contentOf, appendOf}
 use Rattle.segment.specs.Plan.{nextOf, newSegmentOf, appendTestOf, behindOf, planOf}
 use Rattle.segment.specs.declared.plan.NewSegment.the-variants as New
 use Rattle.segment.specs.declared.plan.Plan.the-variants as Planned
@@ -76,3 +81,25 @@ bound-0 = refl
 rotated-without-id : planOf 20 70 (at (2 ^ 64 - 1) 50 20) 1 0 ≡ Planned.Refused NoNextSegmentId
 unfolding planOf nextOf recordAt recordBytes leOf leBytes
 rotated-without-id = refl
+
+-- ---- the state
+
+-- the first entry of a segment sets the first number
+first-entry : counted (fresh 100) 7 ≡ record { «max_segment_size» = 100; «entry_count» = 1; «first_lsn» = 7; «last_lsn» = 7 }
+unfolding counted
+first-entry = refl
+
+-- "a first number of 0 counts as unset"; "the count wraps at 2^64"
+unset-first : counted (record { «max_segment_size» = 100; «entry_count» = 2 ^ 64 - 1; «first_lsn» = 0; «last_lsn» = 3 }) 9 ≡ record { «max_segment_size» = 100; «entry_count» = 0; «first_lsn» = 9; «last_lsn» = 9 }
+unfolding counted
+unset-first = refl
+
+-- document 01, "Bench readings": commit, number 7, time 1 takes 33 bytes with its header
+commit-7 : appendOf (fresh 100) (replicate 40 0) (at 1 0 0) 1 5 7 1 (some commit) .answer ≡ written 1 33
+unfolding appendOf contentOf wellFormed writtenOf planOf behindOf appendTestOf testOf fitsOf directoryRule ruleFrom followsOf liesOf recordsOf recordAt recordBytes leOf leBytes payloadOf fixedBytes
+commit-7 = refl
+
+-- one byte fewer has no room for it, and nothing changes
+commit-7-refused : appendOf (fresh 100) (replicate 32 0) (at 1 0 0) 1 5 7 1 (some commit) ≡ refusedAs NoRoom (fresh 100) (replicate 32 0) (at 1 0 0)
+unfolding appendOf contentOf wellFormed writtenOf planOf behindOf appendTestOf testOf fitsOf directoryRule ruleFrom followsOf liesOf recordsOf recordAt recordBytes leOf leBytes payloadOf fixedBytes
+commit-7-refused = refl

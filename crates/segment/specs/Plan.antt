@@ -14,6 +14,9 @@ use Rattle.directory.specs.declared.rule.Last.the-variants.{NoSegment, Segment}
 use Rattle.directory.specs.declared.rule.Tested.{Tested}
 use Rattle.directory.specs.declared.rule.Tested.the-variants.{Sound}
 use Rattle.directory.specs.declared.rule.Tested.the-variants as Test
+use Rattle.segment.specs.declared.plan.Lack.{Lack}
+use Rattle.segment.specs.declared.plan.Lack.the-variants.{Nothing, Id}
+use Rattle.segment.specs.declared.plan.Lack.the-variants as Lacks
 use Rattle.segment.specs.declared.plan.NewSegment.{NewSegment}
 use Rattle.segment.specs.declared.plan.NewSegment.the-variants.{Record}
 use Rattle.segment.specs.declared.plan.NewSegment.the-variants as New
@@ -26,11 +29,20 @@ abbrev pub noNextId : Last → Bool
 noNextId NoSegment = false
 noNextId (Segment id end) = eqb id (2 ^ 64 - 1)
 
--- 4 goes before 5: "a new segment finds no unused directory record"
+-- 4 goes before 5
+abbrev pub lackOf : (noId noRecord : Bool) → Lack
+lackOf true noRecord = Id
+lackOf false true = Lacks.Record
+lackOf false false = Nothing
+
+abbrev pub nextBy : Lack → Last → NewSegment
+nextBy Id last = New.Refused NoNextSegmentId
+nextBy Lacks.Record last = New.Refused NoRoom
+nextBy Nothing last = Record (newSegment last)
+
+-- 5: "a new segment finds no unused directory record"
 unfoldable pub nextOf : Last → (used records : ℕ) → NewSegment
-nextOf last used records =
-    cond (noNextId last) (New.Refused NoNextSegmentId)
-    (cond (leb records used) (New.Refused NoRoom) (Record (newSegment last)))
+nextOf last used records = nextBy (lackOf (noNextId last) (leb records used)) last
 
 -- 1 and 2 go before both
 abbrev pub segmentAfter : Tested → NewSegment → NewSegment

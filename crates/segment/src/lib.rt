@@ -14,7 +14,7 @@ ghost use lib.ListN.{length};
 ghost use Rattle.directory.specs.Rule.{testOf};
 ghost use Rattle.directory.specs.declared.rule.Tested.the-variants.{Sound};
 ghost use Rattle.payload.specs.Encode.{asked};
-ghost use Rattle.segment.specs.Writing.{fresh, counted, opened, openOf, rotateOf, appended, activeAfter, appendAs, refusing, writtenOf, appendEntryOf, contentOf, appendOf};
+ghost use Rattle.segment.specs.Writing.{fresh, counted, opened, openOf, rotateOf, appended, activeAfter, appendAs, refusedAs, writtenOf, appendEntryOf, contentOf, appendOf};
 ghost use Rattle.segment.specs.declared.plan.Plan.the-variants as Planned;
 
 pub struct SegmentManager {
@@ -47,8 +47,14 @@ pub struct Appending {
     pub answer: Appended,
 }
 
-fn refused(manager: SegmentManager, refusal: Refusal) -> Appending
-    ensures { λ r. ⌜ r ≡ refusing manager refusal ⌝ }
+// "Every refusal leaves the directory, area, writer state .. unchanged": both are lent here so that the promise says so.
+fn refused(
+    manager: SegmentManager,
+    area: &mut [u8],
+    directory: &mut [u8],
+    refusal: Refusal,
+) -> Appending
+    ensures { λ r. ⌜ appended r (now (area .exit)) (now (directory .exit)) ≡ refusedAs refusal manager (now (area .entry)) (now (directory .entry)) ⌝ }
 {
     Appending {
         manager,
@@ -171,7 +177,7 @@ impl SegmentManager {
             used,
             data.len(),
         ) {
-            Plan::Refused(refusal) => refused(self, refusal),
+            Plan::Refused(refusal) => refused(self, area, directory, refusal),
             Plan::Write(w) => self.write(area, directory, w, lsn, data),
         }
     }
@@ -188,7 +194,7 @@ impl SegmentManager {
         ensures { λ r. ⌜ appended r (now (area .exit)) (now (directory .exit)) ≡ appendEntryOf self (now (area .entry)) (now (directory .entry)) used lsn (now («data» .entry)) ⌝ }
     {
         match plan::append_test(area.len(), directory, used) {
-            Tested::Refused(refusal) => refused(self, refusal),
+            Tested::Refused(refusal) => refused(self, area, directory, refusal),
             Tested::Sound => self.append_tested(area, directory, used, lsn, data),
         }
     }
@@ -214,8 +220,8 @@ impl SegmentManager {
         let mut data = [0u8; 612];
         match payload::encode(kind, tx_id, timestamp, key, old_value, new_value, &mut data) {
             Encoded::Written(n) => self.append_tested(area, directory, used, lsn, &data[..n]),
-            Encoded::NotWellFormed => refused(self, Refusal::InvalidEntry),
-            Encoded::NoRoom => refused(self, Refusal::InvalidEntry),
+            Encoded::NotWellFormed => refused(self, area, directory, Refusal::InvalidEntry),
+            Encoded::NoRoom => refused(self, area, directory, Refusal::InvalidEntry),
         }
     }
 
@@ -236,7 +242,7 @@ impl SegmentManager {
         ensures { λ r. ⌜ appended r (now (area .exit)) (now (directory .exit)) ≡ appendOf self (now (area .entry)) (now (directory .entry)) used lsn «tx_id» timestamp (asked kind (now (key .entry)) (now («old_value» .entry)) (now («new_value» .entry))) ⌝ }
     {
         match plan::append_test(area.len(), directory, used) {
-            Tested::Refused(refusal) => refused(self, refusal),
+            Tested::Refused(refusal) => refused(self, area, directory, refusal),
             Tested::Sound => self.append_asked(
                 area,
                 directory,

@@ -6,15 +6,24 @@ use header::WalEntryHeader;
 use refusal::Refusal;
 ghost use mathlib.Core.Path.{_≡_};
 ghost use Prim.Native.Nat.{_<_, _≤_};
+ghost use mathlib.Core.Bool.{false};
+ghost use lib.Dec.{leb};
 ghost use lib.ListN.{length};
 ghost use Rattle.directory.specs.Record.{endOf, recordsOf};
-ghost use Rattle.directory.specs.Rule.{testOf, lastOf};
+ghost use Rattle.directory.specs.Rule.{testOf, lastOf, newSegment};
 ghost use Rattle.directory.specs.declared.rule.Last.the-variants.{NoSegment};
 ghost use Rattle.directory.specs.declared.rule.Tested.the-variants.{Sound};
-ghost use Rattle.segment.specs.Plan.{nextOf, newSegmentOf, appendTestOf, behindOf, planOf};
+ghost use Rattle.segment.specs.Plan.{noNextId, lackOf, nextOf, newSegmentOf, appendTestOf, behindOf, planOf};
 
 // A header's bytes, as a number of the directory.
 const HEADER: u64 = WalEntryHeader::SIZE as u64;
+
+// What a new segment lacks.
+pub(crate) enum Lack {
+    Nothing,
+    Id,
+    Record,
+}
 
 pub(crate) enum NewSegment {
     Refused(Refusal),
@@ -48,34 +57,53 @@ fn last_used(area_len: usize, directory: &[u8], used: usize) -> Last
     }
 }
 
+fn no_next_id(last: Last) -> bool
+    ensures { λ r. ⌜ r ≡ noNextId last ⌝ }
+{
+    match last {
+        Last::NoSegment => false,
+        Last::Segment { id, .. } => id == 0xffff_ffff_ffff_ffff,
+    }
+}
+
 // 4 goes before 5.
+fn lacks(no_id: bool, no_record: bool) -> Lack
+    ensures { λ r. ⌜ r ≡ lackOf «no_id» «no_record» ⌝ }
+{
+    if no_id {
+        return Lack::Id;
+    }
+    if no_record {
+        return Lack::Record;
+    }
+    Lack::Nothing
+}
+
+fn segment_after(last: Last) -> SegmentRecord
+    requires { ⌜ noNextId last ≡ false ⌝ }
+    ensures { λ r. ⌜ r ≡ newSegment last ⌝ }
+{
+    match last {
+        Last::NoSegment => SegmentRecord {
+            id: 1,
+            start: 0,
+            length: 0,
+        },
+        Last::Segment { id, end } => SegmentRecord {
+            id: id + 1,
+            start: end,
+            length: 0,
+        },
+    }
+}
+
 fn next(last: Last, used: usize, records: usize) -> NewSegment
     ensures { λ r. ⌜ r ≡ nextOf last used records ⌝ }
 {
-    match last {
-        Last::NoSegment => {
-            if records <= used {
-                return NewSegment::Refused(Refusal::NoRoom);
-            }
-            NewSegment::Record(SegmentRecord {
-                id: 1,
-                start: 0,
-                length: 0,
-            })
-        }
-        Last::Segment { id, end } => {
-            if id == 0xffff_ffff_ffff_ffff {
-                return NewSegment::Refused(Refusal::NoNextSegmentId);
-            }
-            if records <= used {
-                return NewSegment::Refused(Refusal::NoRoom);
-            }
-            NewSegment::Record(SegmentRecord {
-                id: id + 1,
-                start: end,
-                length: 0,
-            })
-        }
+    match lacks(no_next_id(last), records <= used) {
+        Lack::Id => NewSegment::Refused(Refusal::NoNextSegmentId),
+        Lack::Record => NewSegment::Refused(Refusal::NoRoom),
+        Lack::Nothing => NewSegment::Record(segment_after(last)),
     }
 }
 
@@ -132,7 +160,13 @@ fn behind(segment: SegmentRecord, k: usize, rotated: bool, area_len: usize, len:
     })
 }
 
-// The active segment is held against the bound as it is: an entry that would pass the bound still goes into it.
+// "at or above the bound": the active length as it is. An entry that would pass the bound still goes into the segment.
+fn is_full(bound: u64, active: SegmentRecord) -> bool
+    ensures { λ r. ⌜ r ≡ leb bound (active .length) ⌝ }
+{
+    bound <= active.length
+}
+
 pub(crate) fn plan_append(
     bound: u64,
     area_len: usize,
@@ -144,7 +178,7 @@ pub(crate) fn plan_append(
     ensures { λ r. ⌜ r ≡ planOf bound «area_len» (now (directory .entry)) used len ⌝ }
 {
     let last = directory::record::record_at(directory, used - 1);
-    if last.length < bound {
+    if !is_full(bound, last) {
         return behind(last, used - 1, false, area_len, len);
     }
     let after = Last::Segment {

@@ -25,15 +25,18 @@ append-asked-requires c κs = test-says _ _ _ (sym (c .before .before .before .b
 same-length : tie.Need-same-length
 same-length c = search needs
 
-returns : tie.Need-returns
-unfolding appendOf
-returns c = rw (← c .before .before .before .before .append-test .ensures, c .before .before .refusal .given .1, c .refused .ensures)
-
 same-length-2 : tie.Need-same-length-2
 same-length-2 c = search needs
 
+returns : tie.Need-returns
+unfolding appendOf
+returns c = rw (← c .before .before .before .before .before .before .before .before .before .before .append-test .ensures, c .before .before .before .before .before .before .before .before .refusal .given .1) (c .before .before .before .before .refused .ensures)
+
 same-length-3 : tie.Need-same-length-3
 same-length-3 c = search needs
+
+same-length-4 : tie.Need-same-length-4
+same-length-4 c = search needs
 
 returns-2 : tie.Need-returns-2
 unfolding appendOf
@@ -49,7 +52,8 @@ append-spec =
     enum-told
     append-asked-requires
     same-length
-    returns
     same-length-2
+    returns
     same-length-3
+    same-length-4
     returns-2)

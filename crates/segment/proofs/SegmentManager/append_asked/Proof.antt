@@ -18,9 +18,7 @@ enum-known-n : tie.Need-enum-known-n
 enum-known-n c = search needs
 
 array-share-prefix-data : tie.Need-array-share-prefix-data
-array-share-prefix-data c =
-    let e = rw (c .before .before .before .n .given .1) at (encode-says _ _ _ _ _ _ (omega arith) (c .before .before .before .before .before .before .encode .ensures)) in
-    e .0
+array-share-prefix-data c = (rw (c .before .before .before .n .given .1) at (encode-says _ _ _ _ _ _ (omega arith) (c .before .before .before .before .before .before .encode .ensures))) .0
 
 slice-aggregate-append-tested : tie.Need-slice-aggregate-append-tested
 slice-aggregate-append-tested c =
@@ -53,13 +51,25 @@ returns c =
     let e = rw (c .before .before .before .before .before .before .before .before .before .n .given .1) at (encode-says _ _ _ _ _ _ (omega arith) (c .before .before .before .before .before .before .before .before .before .before .before .before .encode .ensures)) in
     c .before .before .before .before .append-tested .ensures ∙ sym (content-written _ _ _ _ _ _ _ _ _ (e .1))
 
+same-length-3 : tie.Need-same-length-3
+same-length-3 c = search needs
+
+same-length-4 : tie.Need-same-length-4
+same-length-4 c = search needs
+
 returns-2 : tie.Need-returns-2
 returns-2 c =
-    let e = rw (c .before .enum-told .given .1) at (encode-says _ _ _ _ _ _ (omega arith) (c .before .before .before .before .encode .ensures)) in
-    rw (c .refused .ensures) (sym (content-refused _ _ _ _ _ _ _ _ e))
+    let e = rw (c .before .before .before .before .before .before .before .enum-told .given .1) at (encode-says _ _ _ _ _ _ (omega arith) (c .before .before .before .before .before .before .before .before .before .before .encode .ensures)) in
+    c .before .before .before .before .refused .ensures ∙ sym (content-refused _ _ _ _ _ _ _ _ e)
+
+same-length-5 : tie.Need-same-length-5
+same-length-5 c = search needs
+
+same-length-6 : tie.Need-same-length-6
+same-length-6 c = search needs
 
 returns-3 : tie.Need-returns-3
-returns-3 c = absurd (rw (c .before .enum-told2 .given .1) at (encode-says _ _ _ _ _ _ (omega arith) (c .before .before .before .before .encode .ensures)))
+returns-3 c = absurd (rw (c .before .before .before .before .before .before .before .enum-told2 .given .1) at (encode-says _ _ _ _ _ _ (omega arith) (c .before .before .before .before .before .before .before .before .before .before .encode .ensures)))
 
 pub append-asked-spec : {M : Type 1} → statement M
 append-asked-spec =
@@ -78,5 +88,9 @@ append-asked-spec =
     same-length
     same-length-2
     returns
+    same-length-3
+    same-length-4
     returns-2
+    same-length-5
+    same-length-6
     returns-3)

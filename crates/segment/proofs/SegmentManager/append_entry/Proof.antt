@@ -25,15 +25,18 @@ append-tested-requires c κs = test-says _ _ _ (sym (c .before .before .before .
 same-length : tie.Need-same-length
 same-length c = search needs
 
-returns : tie.Need-returns
-unfolding appendEntryOf
-returns c = rw (← c .before .before .before .before .append-test .ensures, c .before .before .refusal .given .1, c .refused .ensures)
-
 same-length-2 : tie.Need-same-length-2
 same-length-2 c = search needs
 
+returns : tie.Need-returns
+unfolding appendEntryOf
+returns c = rw (← c .before .before .before .before .before .before .before .before .before .before .append-test .ensures, c .before .before .before .before .before .before .before .before .refusal .given .1) (c .before .before .before .before .refused .ensures)
+
 same-length-3 : tie.Need-same-length-3
 same-length-3 c = search needs
+
+same-length-4 : tie.Need-same-length-4
+same-length-4 c = search needs
 
 returns-2 : tie.Need-returns-2
 unfolding appendEntryOf
@@ -49,7 +52,8 @@ append-entry-spec =
     enum-told
     append-tested-requires
     same-length
-    returns
     same-length-2
+    returns
     same-length-3
+    same-length-4
     returns-2)

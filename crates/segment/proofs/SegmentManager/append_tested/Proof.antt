@@ -20,22 +20,23 @@ enum-known-w : tie.Need-enum-known-w
 enum-known-w c = search needs
 
 write-requires : tie.Need-write-requires
-write-requires c κs =
-    let s = c .before .before .before .before .before .before .before .before .before .before in
-    plan-fits _ _ _ _ _ _ (s .pre .0) (s .pre .1) (sym (c .before .before .before .before .before .plan-append .ensures) ∙ c .before .before .before .w .given .1)
+write-requires c κs = plan-fits _ _ _ _ _ _ (c .before .before .before .before .before .before .before .before .before .before .pre .0) (c .before .before .before .before .before .before .before .before .before .before .pre .1) (sym (c .before .before .before .before .before .plan-append .ensures) ∙ c .before .before .before .w .given .1)
 
 same-length : tie.Need-same-length
 same-length c = search needs
 
-returns : tie.Need-returns
-unfolding writtenOf
-returns c = rw (← c .before .before .before .before .plan-append .ensures, c .before .before .refusal .given .1, c .refused .ensures)
-
 same-length-2 : tie.Need-same-length-2
 same-length-2 c = search needs
 
+returns : tie.Need-returns
+unfolding writtenOf
+returns c = rw (← c .before .before .before .before .before .before .before .before .before .before .plan-append .ensures, c .before .before .before .before .before .before .before .before .refusal .given .1) (c .before .before .before .before .refused .ensures)
+
 same-length-3 : tie.Need-same-length-3
 same-length-3 c = search needs
+
+same-length-4 : tie.Need-same-length-4
+same-length-4 c = search needs
 
 returns-2 : tie.Need-returns-2
 unfolding writtenOf
@@ -51,7 +52,8 @@ append-tested-spec =
     enum-known-w
     write-requires
     same-length
-    returns
     same-length-2
+    returns
     same-length-3
+    same-length-4
     returns-2)

@@ -2,7 +2,7 @@
 -- Assumes nothing.
 use mathlib.Core.Path.{ap, sym, _∙_}
 use native.Mathlib.Omega.{arith}
-use borrow.Author.Tests.{le-leb, lt-leb}
+use borrow.Author.Tests.{not-true, not-false}
 use Rattle.directory.specs.Record.{endOf}
 use Rattle.segment.specs.Plan.{planOf}
 use Rattle.segment.proofs.Plans.{last-in, new-end}
@@ -16,6 +16,9 @@ sub-record-at c = search needs
 record-at-requires : tie.Need-record-at-requires
 record-at-requires c κs = search needs
 
+is-full-requires : tie.Need-is-full-requires
+is-full-requires c κs = search needs
+
 sub-behind : tie.Need-sub-behind
 sub-behind c = search needs
 
@@ -24,10 +27,10 @@ behind-requires c κs = omega (arith, ap endOf (c .before .before .record-at .en
 
 returns : tie.Need-returns
 unfolding planOf
-returns c = rw (← c .before .before .before .record-at .ensures, lt-leb _ _ (c .before .if1 .taken)) (c .behind .ensures)
+returns c = rw (← c .before .before .before .record-at .ensures, ← c .before .before .is-full .ensures, not-true (c .before .before .is-full .result) (c .before .if1 .taken)) (c .behind .ensures)
 
-add-t13 : tie.Need-add-t13
-add-t13 c = omega (arith, ap endOf (c .before .before .before .record-at .ensures), last-in _ _ (omega arith) _ (c .before .before .before .before .before .pre .0))
+add-t14 : tie.Need-add-t14
+add-t14 c = omega (arith, ap endOf (c .before .before .before .record-at .ensures), last-in _ _ (omega arith) _ (c .before .before .before .before .before .pre .0))
 
 next-requires : tie.Need-next-requires
 next-requires c κs = search needs
@@ -45,11 +48,11 @@ behind-requires-2 c κs =
 
 returns-2 : tie.Need-returns-2
 unfolding planOf
-returns-2 c = rw (← c .before .before .before .before .before .before .before .record-at .ensures, le-leb _ _ (c .before .before .before .before .before .if1 .left), ← c .before .before .before .next .ensures, c .before .refusal .given .1)
+returns-2 c = rw (← c .before .before .before .before .before .before .before .record-at .ensures, ← c .before .before .before .before .before .before .is-full .ensures, not-false (c .before .before .before .before .before .before .is-full .result) (c .before .before .before .before .before .if1 .left), ← c .before .before .before .next .ensures, c .before .refusal .given .1)
 
 returns-3 : tie.Need-returns-3
 unfolding planOf
-returns-3 c = rw (← c .before .before .before .before .before .before .before .before .record-at .ensures, le-leb _ _ (c .before .before .before .before .before .before .if1 .left), ← c .before .before .before .before .next .ensures, c .before .before .segment .given .1) (c .behind2 .ensures)
+returns-3 c = rw (← c .before .before .before .before .before .before .before .before .record-at .ensures, ← c .before .before .before .before .before .before .before .is-full .ensures, not-false (c .before .before .before .before .before .before .before .is-full .result) (c .before .before .before .before .before .before .if1 .left), ← c .before .before .before .before .next .ensures, c .before .before .segment .given .1) (c .behind2 .ensures)
 
 pub plan-append-spec : {M : Type 1} → statement M
 plan-append-spec =
@@ -57,10 +60,11 @@ plan-append-spec =
     (tie.spec
     sub-record-at
     record-at-requires
+    is-full-requires
     sub-behind
     behind-requires
     returns
-    add-t13
+    add-t14
     next-requires
     enum-known-refusal
     enum-known-segment
