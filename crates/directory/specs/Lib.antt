@@ -1,4 +1,5 @@
 pub mod Lent
 pub mod Record
 pub mod Rule
+pub mod Image
 pub mod Examples

@@ -34,7 +34,7 @@ use Rattle.directory.proofs.Rules.{follows-says, rule-parts}
 use Rattle.directory.proofs.Sound.{sound-says}
 use Rattle.segment.specs.Answer.{Answer, refused, written}
 use Rattle.segment.specs.Plan.{lastUsed, ifUsed, appendTestOf, planOf}
-use Rattle.segment.specs.Image.{segmentBytes}
+use Rattle.directory.specs.Image.{segmentBytes}
 use Rattle.segment.specs.Writing.{Log, entryBytes, refusedAs, appendAs, writtenOf, ifTested, appendEntryOf, contentOf, appendOf}
 use Rattle.segment.specs.declared.SegmentManager.{SegmentManager}
 use Rattle.segment.specs.declared.plan.Plan.{Plan}

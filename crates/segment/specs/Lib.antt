@@ -1,5 +1,4 @@
 pub mod Plan
 pub mod Answer
 pub mod Writing
-pub mod Image
 pub mod Examples

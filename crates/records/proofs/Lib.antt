@@ -1,0 +1,4 @@
+pub mod Stores
+pub mod Dense
+pub mod Sorted
+pub mod Halving

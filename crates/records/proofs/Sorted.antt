@@ -1,0 +1,252 @@
+-- The laws of records that strictly ascend by a key, over any comparison that is an order.
+-- Assumes nothing.
+use mathlib.Core.Path.{_≡_, refl, sym, ap, _∙_}
+use mathlib.Core.List.{List, [], _∷_, _++_}
+use mathlib.Core.Option.{Option, none, some}
+use Prim.Native.Nat.{ℕ, suc, _<_, _≤_}
+use native.Mathlib.Omega.{arith}
+use borrow.Author.Tests.{lt-ltb, le-ltb}
+use lib.Dec.{ltb}
+use lib.ListN.{length}
+use Rattle.fields.specs.Order.{compareBytes}
+use Rattle.fields.specs.declared.bytes.Ordering.{Ordering}
+use Rattle.fields.specs.declared.bytes.Ordering.the-variants.{Less, Equal, Greater}
+use Rattle.fields.proofs.Cases.{caseB, tests}
+use Rattle.fields.proofs.Ordered.{flipped, compare-same, compare-equal, compare-flip, compare-trans}
+use Rattle.records.specs.Sorted.{compareNumbers, further, placeOf, recordOf, put, Before, Ascends}
+use Rattle.records.specs.declared.Found.{Found}
+use Rattle.records.specs.declared.Found.the-variants.{At, Gap}
+
+-- ---- orders
+
+-- the three cases of a comparison
+module _ {ℓ} {A : Type ℓ} where
+  pub caseO : (o : Ordering) → (o ≡ Less → A) → (o ≡ Equal → A) → (o ≡ Greater → A) → A
+  caseO Less f g h = f refl
+  caseO Equal f g h = g refl
+  caseO Greater f g h = h refl
+
+pub record IsOrder {K : Type 0} (compare : K → K → Ordering) : Type 0 where
+  pub same : (a : K) → compare a a ≡ Equal
+  pub equal : (a b : K) → compare a b ≡ Equal → a ≡ b
+  pub flip : (a b : K) → compare b a ≡ flipped (compare a b)
+  pub trans : (a b c : K) → compare a b ≡ Less → compare b c ≡ Less → compare a c ≡ Less
+
+module _ {K : Type 0} (compare : K → K → Ordering) (order : IsOrder compare) where
+  greater-trans : (a b c : K) → compare a b ≡ Greater → compare b c ≡ Greater → compare a c ≡ Greater
+  greater-trans a b c p q =
+      order .flip c a ∙ ap flipped (order .trans c b a (order .flip b c ∙ ap flipped q) (order .flip a b ∙ ap flipped p))
+
+  -- two keys are apart
+  caseApart : {A : Type 0} (j k : K) → (j ≡ k → ⊥) → (compare k j ≡ Less → A) → (compare k j ≡ Greater → A) → A
+  caseApart j k n f g = caseO (compare k j) f (λ p. absurd (n (sym (order .equal k j p)))) g
+
+pub bytes-order : IsOrder compareBytes
+bytes-order = record { same = compare-same; equal = compare-equal; flip = compare-flip; trans = compare-trans }
+
+-- the three cases of two numbers
+module _ {A : Type 0} where
+  caseN : (a b : ℕ) → (a < b → compareNumbers a b ≡ Less → A) → (a ≡ b → compareNumbers a b ≡ Equal → A) → (b < a → compareNumbers a b ≡ Greater → A) → A
+  unfolding compareNumbers
+  caseN a b f g h =
+      caseB (ltb a b)
+      (λ p. f (omega (arith, tests)) (rw p))
+      (λ p. caseB (ltb b a) (λ q. h (omega (arith, tests)) (rw (p, q))) (λ q. g (omega (arith, tests)) (rw (p, q))))
+
+pub numbers-less : (a b : ℕ) → a < b → compareNumbers a b ≡ Less
+unfolding compareNumbers
+numbers-less a b h = rw (lt-ltb a b h)
+
+pub numbers-greater : (a b : ℕ) → b < a → compareNumbers a b ≡ Greater
+unfolding compareNumbers
+numbers-greater a b h = rw (le-ltb a b (omega arith), lt-ltb b a h)
+
+pub numbers-same : (a : ℕ) → compareNumbers a a ≡ Equal
+unfolding compareNumbers
+numbers-same a = rw (le-ltb a a (omega arith))
+
+less-numbers : (a b : ℕ) → compareNumbers a b ≡ Less → a < b
+less-numbers a b e = caseN a b (λ h q. h) (λ h q. let z : _≡_ {A = ℕ} 0 1 = cc in absurd (omega arith)) (λ h q. let z : _≡_ {A = ℕ} 0 1 = cc in absurd (omega arith))
+
+pub numbers-order : IsOrder compareNumbers
+numbers-order =
+    record {
+      same = numbers-same;
+      equal = λ a b e. caseN a b (λ h q. cc) (λ h q. h) (λ h q. cc);
+      flip = λ a b. caseN a b (λ h q. rw (q, numbers-greater b a h)) (λ h q. rw (h, numbers-same)) (λ h q. rw (q, numbers-less b a h));
+      trans = λ a b c p q. numbers-less a c (omega (arith, less-numbers a b p, less-numbers b c q));
+    }
+
+-- ---- the place of a key
+
+module _ {K R : Type 0} (compare : K → K → Ordering) (key : R → K) (k : K) where
+  -- the key's record stands at place i, where a put changes it
+  pub record Standing (rs : List R) (i : ℕ) : Type 0 where
+    pub before : List R
+    pub found : R
+    pub after : List R
+    pub whole : rs ≡ before ++ (found ∷ after)
+    pub place : length before ≡ i
+    pub equal : compare (key found) k ≡ Equal
+    pub changed : (change : R → R) (new : R) → put compare key k change new rs ≡ before ++ (change found ∷ after)
+
+  -- the key has no record: its gap is at place i, where a put inserts one
+  pub record Missing (rs : List R) (i : ℕ) : Type 0 where
+    pub before : List R
+    pub after : List R
+    pub whole : rs ≡ before ++ after
+    pub place : length before ≡ i
+    pub inserted : (change : R → R) (new : R) → put compare key k change new rs ≡ before ++ (new ∷ after)
+
+  abbrev Placed : List R → Found → Type 0
+  Placed rs (At i) = Standing rs i
+  Placed rs (Gap i) = Missing rs i
+
+  placed-less : (r : R) (rs : List R) → compare (key r) k ≡ Less → (f : Found) → Placed rs f → Placed (r ∷ rs) (further f)
+  unfolding put
+  placed-less r rs q (At i) p =
+      record {
+        before = r ∷ p .before;
+        found = p .found;
+        after = p .after;
+        whole = rw (← p .whole);
+        place = ap suc (p .place);
+        equal = p .equal;
+        changed = λ change new. rw (q, p .changed change new);
+      }
+  placed-less r rs q (Gap i) p =
+      record {
+        before = r ∷ p .before;
+        after = p .after;
+        whole = rw (← p .whole);
+        place = ap suc (p .place);
+        inserted = λ change new. rw (q, p .inserted change new);
+      }
+
+  placed : (rs : List R) → Placed rs (placeOf compare key k rs)
+  unfolding placeOf put
+  placed [] = record { before = []; after = []; whole = refl; place = refl; inserted = λ change new. refl }
+  placed (r ∷ rs) =
+      caseO (compare (key r) k)
+      (λ q. rw q (placed-less r rs q (placeOf compare key k rs) (placed rs)))
+      (λ q. rw q (record { before = []; found = r; after = rs; whole = refl; place = refl; equal = q; changed = λ change new. rw q }))
+      (λ q. rw q (record { before = []; after = r ∷ rs; whole = refl; place = refl; inserted = λ change new. rw q }))
+
+  pub place-at : (rs : List R) (i : ℕ) → placeOf compare key k rs ≡ At i → Standing rs i
+  place-at rs i e = rw e at (placed rs)
+
+  pub place-gap : (rs : List R) (i : ℕ) → placeOf compare key k rs ≡ Gap i → Missing rs i
+  place-gap rs i e = rw e at (placed rs)
+
+-- ---- a put
+
+-- what a put leaves for its key: the record it had, changed, or the new one
+abbrev pub changedOr : {R : Type 0} → (change : R → R) → (new : R) → Option R → R
+changedOr change new none = new
+changedOr change new (some r) = change r
+
+module _ {K R : Type 0} (compare : K → K → Ordering) (key : R → K) (k : K) (change : R → R) (new : R) where
+  pub put-length : (rs : List R) → (length rs ≤ length (put compare key k change new rs)) × (length (put compare key k change new rs) ≤ suc (length rs))
+  unfolding put
+  put-length [] = omega arith
+  put-length (r ∷ rs) =
+      caseO (compare (key r) k)
+      (λ q. rw q (omega (arith, put-length rs)))
+      (λ q. rw q (omega arith))
+      (λ q. rw q (omega arith))
+
+-- a put that makes a record of its key from one of its key
+module _ {K R : Type 0} (compare : K → K → Ordering) (order : IsOrder compare) (key : R → K) (k : K) (change : R → R) (new : R) (keeps : (r : R) → key r ≡ k → key (change r) ≡ k) (fresh : key new ≡ k) where
+  before-put : (r : R) (rs : List R) → compare (key r) k ≡ Less → Before compare key r rs → Before compare key r (put compare key k change new rs)
+  unfolding put
+  before-put r [] h b = rw fresh h
+  before-put r (s ∷ rs) h b =
+      caseO (compare (key s) k)
+      (λ q. rw q b)
+      (λ q. rw (q, keeps s (order .equal (key s) k q)) h)
+      (λ q. rw (q, fresh) h)
+
+  before-same : (r s : R) (rs : List R) → key r ≡ key s → Before compare key r rs → Before compare key s rs
+  before-same r s [] e b = tt
+  before-same r s (t ∷ rs) e b = rw (← e) b
+
+  pub put-ascends : (rs : List R) → Ascends compare key rs → Ascends compare key (put compare key k change new rs)
+  unfolding put
+  put-ascends [] a = (tt, tt)
+  put-ascends (r ∷ rs) a =
+      caseO (compare (key r) k)
+      (λ q. rw q (before-put r rs q (a .0), put-ascends rs (a .1)))
+      (λ q. let e = order .equal (key r) k q in rw q (before-same r (change r) rs (e ∙ sym (keeps r e)) (a .0), a .1))
+      (λ q. rw q (rw (fresh, order .flip (key r) k, q), a))
+
+  pub put-record : (rs : List R) → recordOf compare key k (put compare key k change new rs) ≡ some (changedOr change new (recordOf compare key k rs))
+  unfolding put recordOf
+  put-record [] = rw (fresh, order .same k)
+  put-record (r ∷ rs) =
+      caseO (compare (key r) k)
+      (λ q. rw (q, q) (put-record rs))
+      (λ q. rw (q, keeps r (order .equal (key r) k q), order .same k))
+      (λ q. rw (q, fresh, order .same k))
+
+  -- another key keeps its record
+  pub put-other : (j : K) → (j ≡ k → ⊥) → (rs : List R) → recordOf compare key j (put compare key k change new rs) ≡ recordOf compare key j rs
+  unfolding put recordOf
+  put-other j n [] = rw fresh (caseApart compare order j k n (λ p. rw p) (λ p. rw p))
+  put-other j n (r ∷ rs) =
+      caseO (compare (key r) k)
+      (λ q. rw (q, put-other j n rs))
+      (λ q. let e = order .equal (key r) k q in rw (q, keeps r e, e) (caseApart compare order j k n (λ p. rw p) (λ p. rw p)))
+      (λ q. rw (q, fresh) (caseApart compare order j k n (λ p. rw p) (λ p. rw (p, greater-trans compare order (key r) k j q p))))
+
+-- ---- ascending records are determined by the record of each key
+
+module _ {K R : Type 0} (compare : K → K → Ordering) (order : IsOrder compare) (key : R → K) where
+  record-first : (r : R) (rs : List R) → recordOf compare key (key r) (r ∷ rs) ≡ some r
+  unfolding recordOf
+  record-first r rs = rw (order .same (key r))
+
+  record-later : (k : K) (r : R) (rs : List R) → compare (key r) k ≡ Less → recordOf compare key k (r ∷ rs) ≡ recordOf compare key k rs
+  unfolding recordOf
+  record-later k r rs q = rw q
+
+  record-less : (k : K) (r : R) (rs : List R) → compare (key r) k ≡ Greater → recordOf compare key k (r ∷ rs) ≡ none
+  unfolding recordOf
+  record-less k r rs q = rw q
+
+  record-none : (k : K) → recordOf compare key k [] ≡ none
+  unfolding recordOf
+  record-none k = refl
+
+  -- behind a record stands none of its key, nor of one before it
+  record-equal : (k : K) (r : R) (rs : List R) → compare (key r) k ≡ Equal → Before compare key r rs → recordOf compare key k rs ≡ none
+  record-equal k r [] q b = record-none k
+  record-equal k r (s ∷ rs) q b =
+      record-less k s rs (order .flip k (key s) ∙ ap flipped (rw (order .equal (key r) k q) at b))
+
+  record-greater : (k : K) (r : R) (rs : List R) → compare (key r) k ≡ Greater → Before compare key r rs → recordOf compare key k rs ≡ none
+  record-greater k r [] q b = record-none k
+  record-greater k r (s ∷ rs) q b =
+      record-less k s rs (greater-trans compare order (key s) (key r) k (order .flip (key r) (key s) ∙ ap flipped b) q)
+
+  same-first : (x y : R) (xs ys : List R) → ((k : K) → recordOf compare key k (x ∷ xs) ≡ recordOf compare key k (y ∷ ys)) → x ≡ y
+  same-first x y xs ys h =
+      caseO (compare (key x) (key y))
+      (λ q. cc (h (key x), record-first x xs, record-less (key x) y ys (order .flip (key x) (key y) ∙ ap flipped q)))
+      (λ q. let e = order .equal (key x) (key y) q in cc (h (key x), record-first x xs, record-first y ys))
+      (λ q. cc (h (key y), record-first y ys, record-less (key y) x xs q))
+
+  same-later : (r : R) (xs ys : List R) → Before compare key r xs → Before compare key r ys
+      → ((k : K) → recordOf compare key k (r ∷ xs) ≡ recordOf compare key k (r ∷ ys)) → (k : K) → recordOf compare key k xs ≡ recordOf compare key k ys
+  same-later r xs ys a b h k =
+      caseO (compare (key r) k)
+      (λ q. sym (record-later k r xs q) ∙ h k ∙ record-later k r ys q)
+      (λ q. record-equal k r xs q a ∙ sym (record-equal k r ys q b))
+      (λ q. record-greater k r xs q a ∙ sym (record-greater k r ys q b))
+
+  pub same-records : (xs ys : List R) → Ascends compare key xs → Ascends compare key ys → ((k : K) → recordOf compare key k xs ≡ recordOf compare key k ys) → xs ≡ ys
+  same-records [] [] a b h = refl
+  same-records [] (y ∷ ys) a b h = cc (h (key y), record-none (key y), record-first y ys)
+  same-records (x ∷ xs) [] a b h = cc (h (key x), record-none (key x), record-first x xs)
+  same-records (x ∷ xs) (y ∷ ys) a b h =
+      let e = same-first x y xs ys h in
+      rw (e, same-records xs ys (a .1) (b .1) (same-later y xs ys (rw e at (a .0)) (b .0) (λ k. rw e at (h k))))

@@ -1,0 +1,5 @@
+pub mod Dense
+pub mod Sorted
+pub mod Halving
+pub mod Moves
+pub mod Examples

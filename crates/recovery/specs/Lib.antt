@@ -1,0 +1,4 @@
+pub mod Log
+pub mod Recover
+pub mod Checkpoint
+pub mod Reach

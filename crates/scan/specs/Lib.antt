@@ -1,0 +1,5 @@
+pub mod Step
+pub mod Walk
+pub mod Read
+pub mod Highest
+pub mod Examples

@@ -1,0 +1,2 @@
+pub mod Truncate
+pub mod Examples
