@@ -25,6 +25,10 @@ headerBy tables payload = headerWith (crcBy tables payload) payload
 unfoldable pub headerBytes : WalEntryHeader → List ℕ
 headerBytes h = leBytes 8 (h .length) ++ (leBytes 4 (h .checksum) ++ leBytes 1 (h .version))
 
+-- an entry's bytes: its header, and then the payload
+unfoldable pub entryBytes : List ℕ → List ℕ
+entryBytes payload = headerBytes (headerOf payload) ++ payload
+
 -- the header at the front of a list of bytes
 unfoldable pub headerAt : List ℕ → WalEntryHeader
 headerAt s = record { length = numAt 0 8 s; checksum = numAt 8 4 s; version = numAt 12 1 s }

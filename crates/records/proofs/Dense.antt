@@ -1,14 +1,14 @@
--- The laws of dense records: a record changed, added or inserted in the bytes, and the records read back.
+-- The laws of dense records: a record changed, added, inserted or removed in the bytes, and the records read back.
 -- Assumes nothing.
 use mathlib.Core.Path.{_≡_, refl, sym, ap, _∙_}
 use mathlib.Core.List.{List, [], _∷_, _++_, append-assoc}
-use Prim.Native.Nat.{ℕ, _+_, _-_, _*_, _≤_}
+use Prim.Native.Nat.{ℕ, suc, _+_, _-_, _*_, _≤_}
 use native.Mathlib.Nat.{mul-zero, sub-zero}
 use native.Mathlib.Omega.{arith}
 use lib.ListN.{length, take, drop, replicate, length-append, length-replicate, replicate-append-replicate}
 use lib.Seq.{sets, take-at, drop-at}
 use Rattle.records.specs.Dense.{bytesOf, dense, recordsOf}
-use Rattle.records.proofs.Stores.{sets-part, sets-insert}
+use Rattle.records.proofs.Stores.{sets-part, sets-insert, sets-remove}
 
 -- what holds of each of the records
 module _ {R : Type 0} (Good : R → Type 0) where
@@ -101,6 +101,28 @@ module _ {R : Type 0} (bytes : R → List ℕ) (size : ℕ) (sized : (r : R) →
       let e = dense-append room before after ∙ ap (λ (l : List ℕ). pre ++ l) (dense-spare room′ after (omega arith)) in
       rw (e, k, drop-at pre _ (size * length before) (length-records before), take-at part _ (size * length after) (length-records after), dense-split room before r after, length-records after, z)
       (sets-insert pre part (replicate size 0) _ (bytes r) (size * length before) (size * (length before + 1)) (length-records before) (rw length-replicate (omega arith)) (rw (sized r, length-replicate)))
+
+  -- the records behind one move down by one, and the last becomes zero; a name for its zeros keeps a numeral's from being
+  -- written out
+  pub dense-removed : (room : ℕ) (before : List R) (r : R) (after : List R) (empty : List ℕ) → empty ≡ replicate size 0 → size * length (before ++ (r ∷ after)) ≤ room
+      → sets (sets (dense bytes room (before ++ (r ∷ after))) (size * length before) (take (size * (length (before ++ (r ∷ after)) - (length before + 1))) (drop (size * (length before + 1)) (dense bytes room (before ++ (r ∷ after)))))) (size * (length (before ++ (r ∷ after)) - 1)) empty ≡ dense bytes room (before ++ after)
+  unfolding dense
+  dense-removed room before r after empty z h =
+      let n = length-append before (r ∷ after) in
+      let fits : size * (length before + suc (length after)) ≤ room = rw n at h in
+      let k : length (before ++ (r ∷ after)) - (length before + 1) ≡ length after = omega arith in
+      let l : length (before ++ (r ∷ after)) - 1 ≡ length before + length after = omega arith in
+      let room′ = room - size * length before in
+      let w : room′ - size - size * length after ≡ room′ - size * length after - size = omega arith in
+      let pre = bytesOf bytes before in
+      let part = bytesOf bytes after in
+      let zeros = replicate {A = ℕ} (room′ - size * length after - size) 0 in
+      let e : dense bytes room (before ++ (r ∷ after)) ≡ pre ++ (bytes r ++ (part ++ zeros)) = dense-split room before r after ∙ rw (length-records after, w) in
+      let f : dense bytes room (before ++ after) ≡ pre ++ (part ++ (empty ++ zeros)) = dense-append room before after ∙ rw (dense-spare room′ after (omega arith), z) in
+      let front : length (pre ++ bytes r) ≡ size * (length before + 1) = rw (length-append, length-records before, sized r) (omega arith) in
+      let d : drop (size * (length before + 1)) (pre ++ (bytes r ++ (part ++ zeros))) ≡ part ++ zeros = rw (← append-assoc pre (bytes r) (part ++ zeros)) (drop-at (pre ++ bytes r) (part ++ zeros) (size * (length before + 1)) front) in
+      rw (e, f, k, l, d, take-at part zeros (size * length after) (length-records after))
+      (sets-remove pre (bytes r) part zeros empty (size * length before) (size * (length before + length after)) (length-records before) (rw (length-records after) (omega arith)) (rw (z, sized r, length-replicate)))
 
   -- ---- reading back, by a reader that reads what was written, whatever stands after it
 

@@ -13,9 +13,10 @@ use Rattle.fields.specs.declared.bytes.Ordering.{Ordering}
 use Rattle.fields.specs.declared.bytes.Ordering.the-variants.{Less, Equal, Greater}
 use Rattle.fields.proofs.Cases.{caseB, tests}
 use Rattle.fields.proofs.Ordered.{flipped, compare-same, compare-equal, compare-flip, compare-trans}
-use Rattle.records.specs.Sorted.{compareNumbers, further, placeOf, recordOf, put, Before, Ascends}
+use Rattle.records.specs.Sorted.{compareNumbers, further, placeOf, recordOf, put, remove, Before, Ascends}
 use Rattle.records.specs.declared.Found.{Found}
 use Rattle.records.specs.declared.Found.the-variants.{At, Gap}
+use Rattle.records.proofs.Dense.{All}
 
 -- ---- orders
 
@@ -80,7 +81,7 @@ numbers-order =
 -- ---- the place of a key
 
 module _ {K R : Type 0} (compare : K → K → Ordering) (key : R → K) (k : K) where
-  -- the key's record stands at place i, where a put changes it
+  -- the key's record stands at place i, where a put changes it and a remove takes it out
   pub record Standing (rs : List R) (i : ℕ) : Type 0 where
     pub before : List R
     pub found : R
@@ -89,21 +90,23 @@ module _ {K R : Type 0} (compare : K → K → Ordering) (key : R → K) (k : K)
     pub place : length before ≡ i
     pub equal : compare (key found) k ≡ Equal
     pub changed : (change : R → R) (new : R) → put compare key k change new rs ≡ before ++ (change found ∷ after)
+    pub removed : remove compare key k rs ≡ before ++ after
 
-  -- the key has no record: its gap is at place i, where a put inserts one
+  -- the key has no record: its gap is at place i, where a put inserts one, and a remove changes nothing
   pub record Missing (rs : List R) (i : ℕ) : Type 0 where
     pub before : List R
     pub after : List R
     pub whole : rs ≡ before ++ after
     pub place : length before ≡ i
     pub inserted : (change : R → R) (new : R) → put compare key k change new rs ≡ before ++ (new ∷ after)
+    pub removed : remove compare key k rs ≡ rs
 
   abbrev Placed : List R → Found → Type 0
   Placed rs (At i) = Standing rs i
   Placed rs (Gap i) = Missing rs i
 
   placed-less : (r : R) (rs : List R) → compare (key r) k ≡ Less → (f : Found) → Placed rs f → Placed (r ∷ rs) (further f)
-  unfolding put
+  unfolding put remove
   placed-less r rs q (At i) p =
       record {
         before = r ∷ p .before;
@@ -113,6 +116,7 @@ module _ {K R : Type 0} (compare : K → K → Ordering) (key : R → K) (k : K)
         place = ap suc (p .place);
         equal = p .equal;
         changed = λ change new. rw (q, p .changed change new);
+        removed = rw (q, p .removed);
       }
   placed-less r rs q (Gap i) p =
       record {
@@ -121,16 +125,17 @@ module _ {K R : Type 0} (compare : K → K → Ordering) (key : R → K) (k : K)
         whole = rw (← p .whole);
         place = ap suc (p .place);
         inserted = λ change new. rw (q, p .inserted change new);
+        removed = rw (q, p .removed);
       }
 
   placed : (rs : List R) → Placed rs (placeOf compare key k rs)
-  unfolding placeOf put
-  placed [] = record { before = []; after = []; whole = refl; place = refl; inserted = λ change new. refl }
+  unfolding placeOf put remove
+  placed [] = record { before = []; after = []; whole = refl; place = refl; inserted = λ change new. refl; removed = refl }
   placed (r ∷ rs) =
       caseO (compare (key r) k)
       (λ q. rw q (placed-less r rs q (placeOf compare key k rs) (placed rs)))
-      (λ q. rw q (record { before = []; found = r; after = rs; whole = refl; place = refl; equal = q; changed = λ change new. rw q }))
-      (λ q. rw q (record { before = []; after = r ∷ rs; whole = refl; place = refl; inserted = λ change new. rw q }))
+      (λ q. rw q (record { before = []; found = r; after = rs; whole = refl; place = refl; equal = q; changed = λ change new. rw q; removed = rw q }))
+      (λ q. rw q (record { before = []; after = r ∷ rs; whole = refl; place = refl; inserted = λ change new. rw q; removed = rw q }))
 
   pub place-at : (rs : List R) (i : ℕ) → placeOf compare key k rs ≡ At i → Standing rs i
   place-at rs i e = rw e at (placed rs)
@@ -146,6 +151,16 @@ changedOr change new none = new
 changedOr change new (some r) = change r
 
 module _ {K R : Type 0} (compare : K → K → Ordering) (key : R → K) (k : K) (change : R → R) (new : R) where
+  -- what holds of the records, and of those that it makes, holds after it
+  pub put-all : (Good : R → Type 0) → ((r : R) → Good r → Good (change r)) → Good new → (rs : List R) → All Good rs → All Good (put compare key k change new rs)
+  unfolding put
+  put-all Good g h [] gs = (h, tt)
+  put-all Good g h (r ∷ rs) gs =
+      caseO (compare (key r) k)
+      (λ q. rw q (gs .0, put-all Good g h rs (gs .1)))
+      (λ q. rw q (g r (gs .0), gs .1))
+      (λ q. rw q (h, gs))
+
   pub put-length : (rs : List R) → (length rs ≤ length (put compare key k change new rs)) × (length (put compare key k change new rs) ≤ suc (length rs))
   unfolding put
   put-length [] = omega arith
@@ -198,7 +213,7 @@ module _ {K R : Type 0} (compare : K → K → Ordering) (order : IsOrder compar
       (λ q. let e = order .equal (key r) k q in rw (q, keeps r e, e) (caseApart compare order j k n (λ p. rw p) (λ p. rw p)))
       (λ q. rw (q, fresh) (caseApart compare order j k n (λ p. rw p) (λ p. rw (p, greater-trans compare order (key r) k j q p))))
 
--- ---- ascending records are determined by the record of each key
+-- ---- the record of a key among ascending records
 
 module _ {K R : Type 0} (compare : K → K → Ordering) (order : IsOrder compare) (key : R → K) where
   record-first : (r : R) (rs : List R) → recordOf compare key (key r) (r ∷ rs) ≡ some r
@@ -217,6 +232,15 @@ module _ {K R : Type 0} (compare : K → K → Ordering) (order : IsOrder compar
   unfolding recordOf
   record-none k = refl
 
+  -- a key's record has that key
+  pub record-key : (k : K) (rs : List R) (r : R) → recordOf compare key k rs ≡ some r → key r ≡ k
+  record-key k [] r e = cc (record-none k)
+  record-key k (s ∷ rs) r e =
+      caseO (compare (key s) k)
+      (λ q. record-key k rs r (sym (record-later k s rs q) ∙ e))
+      (λ q. let f = order .equal (key s) k q in cc (record-first s rs))
+      (λ q. cc (record-less k s rs q))
+
   -- behind a record stands none of its key, nor of one before it
   record-equal : (k : K) (r : R) (rs : List R) → compare (key r) k ≡ Equal → Before compare key r rs → recordOf compare key k rs ≡ none
   record-equal k r [] q b = record-none k
@@ -227,6 +251,8 @@ module _ {K R : Type 0} (compare : K → K → Ordering) (order : IsOrder compar
   record-greater k r [] q b = record-none k
   record-greater k r (s ∷ rs) q b =
       record-less k s rs (greater-trans compare order (key s) (key r) k (order .flip (key r) (key s) ∙ ap flipped b) q)
+
+  -- ---- ascending records are determined by the record of each key
 
   same-first : (x y : R) (xs ys : List R) → ((k : K) → recordOf compare key k (x ∷ xs) ≡ recordOf compare key k (y ∷ ys)) → x ≡ y
   same-first x y xs ys h =
@@ -250,3 +276,69 @@ module _ {K R : Type 0} (compare : K → K → Ordering) (order : IsOrder compar
   same-records (x ∷ xs) (y ∷ ys) a b h =
       let e = same-first x y xs ys h in
       rw (e, same-records xs ys (a .1) (b .1) (same-later y xs ys (rw e at (a .0)) (b .0) (λ k. rw e at (h k))))
+
+-- ---- a remove
+
+module _ {K R : Type 0} (compare : K → K → Ordering) (key : R → K) (k : K) where
+  pub remove-all : (Good : R → Type 0) (rs : List R) → All Good rs → All Good (remove compare key k rs)
+  unfolding remove
+  remove-all Good [] gs = tt
+  remove-all Good (r ∷ rs) gs =
+      caseO (compare (key r) k)
+      (λ q. rw q (gs .0, remove-all Good rs (gs .1)))
+      (λ q. rw q (gs .1))
+      (λ q. rw q gs)
+
+  pub remove-length : (rs : List R) → (length (remove compare key k rs) ≤ length rs) × (length rs ≤ suc (length (remove compare key k rs)))
+  unfolding remove
+  remove-length [] = omega arith
+  remove-length (r ∷ rs) =
+      caseO (compare (key r) k)
+      (λ q. rw q (omega (arith, remove-length rs)))
+      (λ q. rw q (omega arith))
+      (λ q. rw q (omega arith))
+
+module _ {K R : Type 0} (compare : K → K → Ordering) (order : IsOrder compare) (key : R → K) (k : K) where
+  before-later : (r s : R) (rs : List R) → compare (key r) (key s) ≡ Less → Before compare key s rs → Before compare key r rs
+  before-later r s [] h b = tt
+  before-later r s (t ∷ rs) h b = order .trans (key r) (key s) (key t) h b
+
+  before-remove : (r : R) (rs : List R) → Before compare key r rs → Ascends compare key rs → Before compare key r (remove compare key k rs)
+  unfolding remove
+  before-remove r [] b a = tt
+  before-remove r (s ∷ rs) b a =
+      caseO (compare (key s) k)
+      (λ q. rw q b)
+      (λ q. rw q (before-later r s rs b (a .0)))
+      (λ q. rw q b)
+
+  pub remove-ascends : (rs : List R) → Ascends compare key rs → Ascends compare key (remove compare key k rs)
+  unfolding remove
+  remove-ascends [] a = tt
+  remove-ascends (r ∷ rs) a =
+      caseO (compare (key r) k)
+      (λ q. rw q (before-remove r rs (a .0) (a .1), remove-ascends rs (a .1)))
+      (λ q. rw q (a .1))
+      (λ q. rw q a)
+
+  pub remove-record : (rs : List R) → Ascends compare key rs → recordOf compare key k (remove compare key k rs) ≡ none
+  unfolding remove recordOf
+  remove-record [] a = refl
+  remove-record (r ∷ rs) a =
+      caseO (compare (key r) k)
+      (λ q. rw (q, q) (remove-record rs (a .1)))
+      (λ q. rw q (record-equal compare order key k r rs q (a .0)))
+      (λ q. rw (q, q))
+
+  -- another key keeps its record
+  pub remove-other : (j : K) → (j ≡ k → ⊥) → (rs : List R) → Ascends compare key rs → recordOf compare key j (remove compare key k rs) ≡ recordOf compare key j rs
+  unfolding remove recordOf
+  remove-other j n [] a = refl
+  remove-other j n (r ∷ rs) a =
+      caseO (compare (key r) k)
+      (λ q. rw (q, remove-other j n rs (a .1)))
+      (λ q.
+      let e = order .equal (key r) k q in
+      rw q
+      (caseApart compare order j k n (λ p. rw (e, p)) (λ p. rw (record-greater compare order key j r rs (rw e p) (a .0), e, p))))
+      (λ q. rw q)

@@ -6,9 +6,9 @@ use mathlib.Core.Option.{none, some}
 use Prim.Native.Nat.{ℕ, _+_, _*_}
 use Rattle.fields.specs.Le.{leOf, leBytes, numAt}
 use Rattle.records.specs.Dense.{bytesOf, dense, recordsOf}
-use Rattle.records.specs.Sorted.{compareNumbers, placeOf, recordOf, put}
+use Rattle.records.specs.Sorted.{compareNumbers, placeOf, recordOf, put, remove}
 use Rattle.records.specs.Halving.{halve, halved, foundIn}
-use Rattle.records.specs.Moves.{movedUp}
+use Rattle.records.specs.Moves.{movedUp, movedDown}
 use Rattle.records.specs.declared.Found.the-variants.{At, Gap}
 
 two-of-three : dense (leBytes 2) 6 (513 ∷ 3 ∷ []) ≡ 1 ∷ 2 ∷ 3 ∷ 0 ∷ 0 ∷ 0 ∷ []
@@ -55,6 +55,14 @@ inserted : put compareNumbers itself 21 (λ n. n + 5) 21 tens ≡ 10 ∷ 20 ∷ 
 unfolding put compareNumbers
 inserted = refl
 
+removed : remove compareNumbers itself 20 tens ≡ 10 ∷ 30 ∷ []
+unfolding remove compareNumbers
+removed = refl
+
+none-removed : remove compareNumbers itself 21 tens ≡ tens
+unfolding remove compareNumbers
+none-removed = refl
+
 -- ---- halved: among as many records as the transactions may have, record i of key 10 * i
 
 found-first : foundIn (λ i. compareNumbers (10 * i) 0) 65_536 ≡ At 0
@@ -80,11 +88,20 @@ none-at-all = refl
 -- ---- moved
 
 -- a word moves over itself
-by-two : movedUp (1 ∷ 2 ∷ 3 ∷ 4 ∷ 5 ∷ 6 ∷ 7 ∷ 8 ∷ 9 ∷ 10 ∷ 11 ∷ []) 1 1 2 ≡ 1 ∷ 2 ∷ 3 ∷ 2 ∷ 3 ∷ 4 ∷ 5 ∷ 6 ∷ 7 ∷ 8 ∷ 9 ∷ []
+up-by-two : movedUp (1 ∷ 2 ∷ 3 ∷ 4 ∷ 5 ∷ 6 ∷ 7 ∷ 8 ∷ 9 ∷ 10 ∷ 11 ∷ []) 1 1 2 ≡ 1 ∷ 2 ∷ 3 ∷ 2 ∷ 3 ∷ 4 ∷ 5 ∷ 6 ∷ 7 ∷ 8 ∷ 9 ∷ []
 unfolding movedUp
-by-two = refl
+up-by-two = refl
 
 -- one byte too far
-by-three : movedUp (1 ∷ 2 ∷ 3 ∷ 4 ∷ 5 ∷ 6 ∷ 7 ∷ 8 ∷ 9 ∷ 10 ∷ 11 ∷ []) 1 1 3 ≡ 1 ∷ 2 ∷ 3 ∷ 4 ∷ 5 ∷ 6 ∷ 7 ∷ 8 ∷ 9 ∷ 10 ∷ 11 ∷ []
+up-by-three : movedUp (1 ∷ 2 ∷ 3 ∷ 4 ∷ 5 ∷ 6 ∷ 7 ∷ 8 ∷ 9 ∷ 10 ∷ 11 ∷ []) 1 1 3 ≡ 1 ∷ 2 ∷ 3 ∷ 4 ∷ 5 ∷ 6 ∷ 7 ∷ 8 ∷ 9 ∷ 10 ∷ 11 ∷ []
 unfolding movedUp
-by-three = refl
+up-by-three = refl
+
+down-by-two : movedDown (1 ∷ 2 ∷ 3 ∷ 4 ∷ 5 ∷ 6 ∷ 7 ∷ 8 ∷ 9 ∷ 10 ∷ 11 ∷ []) 1 1 2 ≡ 1 ∷ 4 ∷ 5 ∷ 6 ∷ 7 ∷ 8 ∷ 9 ∷ 10 ∷ 11 ∷ 10 ∷ 11 ∷ []
+unfolding movedDown
+down-by-two = refl
+
+-- one byte is missing
+down-by-three : movedDown (1 ∷ 2 ∷ 3 ∷ 4 ∷ 5 ∷ 6 ∷ 7 ∷ 8 ∷ 9 ∷ 10 ∷ 11 ∷ []) 1 1 3 ≡ 1 ∷ 2 ∷ 3 ∷ 4 ∷ 5 ∷ 6 ∷ 7 ∷ 8 ∷ 9 ∷ 10 ∷ 11 ∷ []
+unfolding movedDown
+down-by-three = refl

@@ -40,6 +40,11 @@ module _ {K R : Type 0} (compare : K → K → Ordering) (key : R → K) where
   put k change new [] = new ∷ []
   put k change new (r ∷ rs) = byOrder (compare (key r) k) (r ∷ put k change new rs) (change r ∷ rs) (new ∷ r ∷ rs)
 
+  -- the key's record goes
+  unfoldable pub remove : K → List R → List R
+  remove k [] = []
+  remove k (r ∷ rs) = byOrder (compare (key r) k) (r ∷ remove k rs) rs (r ∷ rs)
+
   -- strictly ascending
   abbrev pub Before : R → List R → Type 0
   Before r [] = Unit {0}

@@ -1,12 +1,13 @@
-// Bytes moved up in a lent buffer, by words of 8 bytes.
+// Bytes moved up or down in a lent buffer, by words of 8 bytes.
 ghost use mathlib.Core.Path.{_≡_};
 ghost use Prim.Native.Nat.{_+_, _*_, _≤_};
 ghost use lib.Dec.{leb};
 ghost use lib.ListN.{length, take, drop};
 ghost use lib.Seq.{sets};
-ghost use Rattle.records.specs.Moves.{movedUp};
+ghost use Rattle.records.specs.Moves.{movedUp, movedDown};
 
-// Whether the words lie in so many bytes once they are moved: held against what is left, since a sum could wrap.
+// Whether the words lie in so many bytes where they stand `by` further up than `at`: held against what is left, since a sum
+// could wrap.
 fn lie_in(len: usize, at: usize, words: usize, by: usize) -> bool
     ensures { λ r. ⌜ r ≡ leb (at + by + 8 * words) len ⌝ }
 {
@@ -20,7 +21,7 @@ fn lie_in(len: usize, at: usize, words: usize, by: usize) -> bool
 }
 
 // The last word first: a word may be moved over those behind it, which stand in their places by then.
-fn move_words(s: &mut [u8], at: usize, words: usize, by: usize)
+fn move_words_up(s: &mut [u8], at: usize, words: usize, by: usize)
     requires { ⌜ at + by + 8 * words ≤ length (now s) ⌝ }
     ensures { λ _. ⌜ now (s .exit) ≡ sets (now (s .entry)) (at + by) (take (8 * words) (drop at (now (s .entry)))) ⌝ }
 {
@@ -37,6 +38,28 @@ pub fn move_up(s: &mut [u8], at: usize, words: usize, by: usize)
     ensures { λ _. ⌜ now (s .exit) ≡ movedUp (now (s .entry)) at words by ⌝ }
 {
     if lie_in(s.len(), at, words, by) {
-        move_words(s, at, words, by);
+        move_words_up(s, at, words, by);
+    }
+}
+
+// The first word first: a word may be moved over those before it, which stand in their places by then.
+fn move_words_down(s: &mut [u8], at: usize, words: usize, by: usize)
+    requires { ⌜ at + by + 8 * words ≤ length (now s) ⌝ }
+    ensures { λ _. ⌜ now (s .exit) ≡ sets (now (s .entry)) at (take (8 * words) (drop (at + by) (now (s .entry)))) ⌝ }
+{
+    let mut moved = 0;
+    while moved < words {
+        let word = fields::get_u64(s, at + by + 8 * moved);
+        fields::put_u64(s, at + 8 * moved, word);
+        moved += 1;
+    }
+}
+
+// Moves so many words down by `by` bytes, to `at`. Where they don't lie in the buffer, nothing is moved.
+pub fn move_down(s: &mut [u8], at: usize, words: usize, by: usize)
+    ensures { λ _. ⌜ now (s .exit) ≡ movedDown (now (s .entry)) at words by ⌝ }
+{
+    if lie_in(s.len(), at, words, by) {
+        move_words_down(s, at, words, by);
     }
 }

@@ -3,3 +3,4 @@ pub mod Ends
 pub mod Zeros
 pub mod Concludes
 pub mod Accepts
+pub mod Depends

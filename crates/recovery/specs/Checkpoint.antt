@@ -1,9 +1,9 @@
 -- Document 01, "Recovery": the checkpoint.
 -- Assumes nothing.
 use Prim.Native.Nat.{ℕ}
-use mathlib.Core.Bool.{cond}
+use mathlib.Core.Bool.{Bool, true, false, cond}
 use mathlib.Core.List.{List}
-use lib.Dec.{eqb, leb}
+use lib.Dec.{eqb, leb, ltb}
 use lib.ListN.{length}
 use lib.Seq.{sets}
 use Rattle.fields.specs.Le.{leBytes, numAt}
@@ -41,10 +41,12 @@ pub record Advancing : Type 0 where
 abbrev pub advancing : Checkpointed → List ℕ → Advancing
 advancing r target = record { answer = checkpointedAs r; target = target }
 
+abbrev pub advanceIf : (exceeds : Bool) → (highest : ℕ) → (target : List ℕ) → Advancing
+advanceIf true highest target = advancing (Checkpoints.At highest) (sets target 0 (leBytes 8 highest))
+advanceIf false highest target = advancing (Checkpoints.Refused NoNewCheckpoints) target
+
 unfoldable pub advanceOf : (highest stored : ℕ) → (target : List ℕ) → Advancing
-advanceOf highest stored target =
-    cond (leb highest stored) (advancing (Checkpoints.Refused NoNewCheckpoints) target)
-    (advancing (Checkpoints.At highest) (sets target 0 (leBytes 8 highest)))
+advanceOf highest stored target = advanceIf (ltb stored highest) highest target
 
 pub record Checkpointing : Type 0 where
   pub answer : Answer

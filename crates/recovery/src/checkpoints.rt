@@ -2,10 +2,7 @@
 use super::Recovery;
 use refusal::Refusal;
 ghost use mathlib.Core.Path.{_≡_};
-ghost use Rattle.records.specs.Dense.{recordsOf};
-ghost use Rattle.lists.specs.Transactions.{transactionAt};
-ghost use Rattle.lists.specs.Tally.{highestCommitted};
-ghost use Rattle.recovery.specs.Checkpoint.{checkpointAt, advancing, advanceOf, checkpointing, checkpointOf};
+ghost use Rattle.recovery.specs.Checkpoint.{checkpointAt, advancing, advanceIf, checkpointing, checkpointOf};
 
 // Of a checkpoint's image.
 const SIZE: usize = 8;
@@ -25,14 +22,14 @@ pub fn read_checkpoint(image: &[u8]) -> u64
 }
 
 // The target is written only where the checkpoint moves on.
-fn advance(highest: u64, stored: u64, target: &mut [u8]) -> Checkpointed
-    ensures { λ r. ⌜ advancing r (now (target .exit)) ≡ advanceOf highest stored (now (target .entry)) ⌝ }
+fn advance(exceeds: bool, highest: u64, target: &mut [u8]) -> Checkpointed
+    ensures { λ r. ⌜ advancing r (now (target .exit)) ≡ advanceIf exceeds highest (now (target .entry)) ⌝ }
 {
-    if highest <= stored {
-        return Checkpointed::Refused(Refusal::NoNewCheckpoints);
+    if exceeds {
+        fields::put_u64(target, 0, highest);
+        return Checkpointed::At(highest);
     }
-    fields::put_u64(target, 0, highest);
-    Checkpointed::At(highest)
+    Checkpointed::Refused(Refusal::NoNewCheckpoints)
 }
 
 // It runs the recovery itself and trusts no lists. The target is tested before anything is read.
@@ -55,7 +52,7 @@ pub fn checkpoint(
         Recovery::Done(recovered) => {
             let stats = recovered.stats;
             let highest = lists::tally::highest_committed(transactions, stats.total_transactions);
-            advance(highest, read_checkpoint(stored), target)
+            advance(read_checkpoint(stored) < highest, highest, target)
         }
     }
 }

@@ -10,7 +10,7 @@ use lib.ListN.{length, take, drop, length-append, length-take}
 use lib.Seq.{drop-append-seam, drop-append-add, take-append-add, take-at, drop-at}
 use Rattle.fields.specs.Le.{Bytes}
 use Rattle.fields.proofs.Cases.{caseB}
-use Rattle.header.specs.Header.{headerOf, headerBytes, headerAt, validFor}
+use Rattle.header.specs.Header.{headerOf, headerBytes, entryBytes, headerAt, validFor}
 use Rattle.header.proofs.Laws.{header-length, header-of-back, header-of-valid}
 use Rattle.entry.specs.Decode.{bytesAt, decodeOf}
 use Rattle.entry.specs.declared.Place.{Place}
@@ -22,10 +22,6 @@ use Rattle.scan.specs.declared.Step.the-variants.{Entry, Torn}
 use Rattle.scan.proofs.Steps.{payloadAt, from-short, from-beyond, from-whole}
 use Rattle.scan.proofs.Walks.{read-entry, read-partial}
 
--- header and payload
-abbrev pub entryBytes : List ℕ → List ℕ
-entryBytes payload = headerBytes (headerOf payload) ++ payload
-
 abbrev pub placeBehind : List ℕ → List ℕ → Place
 placeBehind before payload = record { start = length before + 13; len = length payload }
 
@@ -35,7 +31,7 @@ judge-written payload = rw (header-of-valid payload)
 
 module _ (before payload : List ℕ) (bytes : Bytes payload) (fits : length payload < 256 ^ 8) where
   pub step-written : (rest : List ℕ) → stepAt (before ++ (entryBytes payload ++ rest)) (length before) ≡ stepAs (placeBehind before payload) (judgedAs (decodeOf payload))
-  unfolding stepAt headerOf
+  unfolding stepAt headerOf entryBytes
   step-written rest =
       let h = headerBytes (headerOf payload) in
       let s = before ++ (entryBytes payload ++ rest) in
@@ -54,7 +50,7 @@ module _ (before payload : List ℕ) (bytes : Bytes payload) (fits : length payl
 
   -- a proper beginning of it, of one byte at least, at a segment's end
   pub step-torn : (n : ℕ) → 0 < n → n < 13 + length payload → stepAt (before ++ take n (entryBytes payload)) (length before) ≡ Torn
-  unfolding stepAt headerOf
+  unfolding stepAt headerOf entryBytes
   step-torn n some proper =
       let s = before ++ take n (entryBytes payload) in
       let e : length s ≡ length before + n = rw (length-append, length-take, length-append, header-length) (omega arith) in

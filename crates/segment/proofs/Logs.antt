@@ -15,7 +15,7 @@ use Rattle.fields.proofs.Cases.{caseB, tests}
 use Rattle.fields.proofs.Stores.{sets-join, sets-front, take-sets, drop-sets}
 use Rattle.refusal.specs.declared.Refusal.{Refusal}
 use Rattle.refusal.specs.declared.Refusal.the-variants.{InvalidEntry}
-use Rattle.header.specs.Header.{headerOf, headerBytes}
+use Rattle.header.specs.Header.{headerOf, headerBytes, entryBytes}
 use Rattle.header.proofs.Laws.{header-length}
 use Rattle.payload.specs.Content.{Content, payloadOf, wellFormed}
 use Rattle.payload.specs.Encode.{isWellFormed, putAnswer, putTarget, EncodeIs}
@@ -35,7 +35,7 @@ use Rattle.directory.proofs.Sound.{sound-says}
 use Rattle.segment.specs.Answer.{Answer, refused, written}
 use Rattle.segment.specs.Plan.{lastUsed, ifUsed, appendTestOf, planOf}
 use Rattle.directory.specs.Image.{segmentBytes}
-use Rattle.segment.specs.Writing.{Log, entryBytes, refusedAs, appendAs, writtenOf, ifTested, appendEntryOf, contentOf, appendOf}
+use Rattle.segment.specs.Writing.{Log, refusedAs, appendAs, writtenOf, ifTested, appendEntryOf, contentOf, appendOf}
 use Rattle.segment.specs.declared.SegmentManager.{SegmentManager}
 use Rattle.segment.specs.declared.plan.Plan.{Plan}
 use Rattle.segment.specs.declared.plan.Plan.the-variants as Planned

@@ -10,7 +10,7 @@ use lib.Seq.{sets}
 use Rattle.refusal.specs.Number.{numberOf}
 use Rattle.refusal.specs.declared.Refusal.{Refusal}
 use Rattle.refusal.specs.declared.Refusal.the-variants.{InvalidEntry}
-use Rattle.header.specs.Header.{headerOf, headerBytes}
+use Rattle.header.specs.Header.{entryBytes}
 use Rattle.payload.specs.Content.{Content, payloadOf, wellFormed}
 use Rattle.directory.specs.Record.{recordBytes}
 use Rattle.directory.specs.declared.rule.Tested.{Tested}
@@ -97,10 +97,6 @@ counted m lsn =
 -- the state that an entry is counted in
 abbrev pub activeAfter : (rotated : Bool) → SegmentManager → SegmentManager
 activeAfter rotated m = cond rotated (fresh (m .«max_segment_size»)) m
-
--- an entry's bytes: header and payload
-unfoldable pub entryBytes : List ℕ → List ℕ
-entryBytes payload = headerBytes (headerOf payload) ++ payload
 
 -- "Each append is all or nothing, rotation included."
 abbrev pub appendAs : Plan → SegmentManager → List ℕ → List ℕ → (lsn : ℕ) → (payload : List ℕ) → Log

@@ -1,7 +1,7 @@
 -- `checkpoint` meets its contract: refused by the target or by the recovery, or by what the transactions say.
 -- Assumes nothing.
 use borrow.Author.Tests.{le-leb, lt-leb}
-use Rattle.recovery.specs.Checkpoint.{checkpointOf}
+use Rattle.recovery.specs.Checkpoint.{advanceOf, checkpointOf}
 use Rattle.recovery.proofs.Accepts.{checkpoints}
 use borrow.Author.Needs.{needs}
 use Rattle.recovery.proofs.checkpoints.checkpoint.Statement.{statement}
@@ -49,7 +49,7 @@ same-length-5 : tie.Need-same-length-5
 same-length-5 c = search needs
 
 returns-3 : tie.Need-returns-3
-unfolding checkpointOf
+unfolding checkpointOf advanceOf
 returns-3 c =
     rw (le-leb _ _ (c .before .before .before .before .before .before .before .before .before .before .before .before .before .before .before .before .before .before .if1 .left))
     (checkpoints _ _ _ _ _ _ _ _ _ (c .before .before .before .before .before .before .before .before .before .recovered .given .0 .0) _ _ (c .before .before .advance .result) _ (λ i. c .before .before .before .before .before .before .before .before .before .before .before .before .before .before .before .before .before .before .before .before .before .before .before .before .shared-slice-known .given i .fits) (rw (c .before .before .before .before .before .before .before .before .before .recovered .given .1) at (c .before .before .before .before .before .before .before .before .before .before .before .before .before .before .before .recover .ensures)) (c .before .before .before .before .before .highest-committed .ensures) (c .before .before .before .before .read-checkpoint .ensures) (c .before .before .advance .ensures))

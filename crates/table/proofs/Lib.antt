@@ -1,0 +1,4 @@
+pub mod Rows
+pub mod Moved
+pub mod Tables
+pub mod Lookups
