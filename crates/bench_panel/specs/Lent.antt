@@ -1,11 +1,26 @@
 -- What the panel keeps true of the lent sizes.
-use mathlib.Core.Path.{_≡_}
+-- Assumes nothing.
+use mathlib.Core.List.{List}
 use Prim.Native.Nat.{ℕ, _≤_}
-use Rattle.bench_panel.specs.declared.panel.Panel.{Panel}
+use lib.ListN.{length}
+use Rattle.bench_panel.specs.declared.panel.Lent.{Lent}
 
--- "none may exceed what there is": an area and a directory of so many bytes
-abbrev pub Within : Panel → ℕ → ℕ → Type 0
-Within panel area directory = (panel .lent .area ≤ area) × (panel .lent .directory ≤ directory)
+-- the sizes of the buffers as a whole
+abbrev pub sizesOf : List ℕ → List ℕ → List ℕ → List ℕ → List ℕ → Lent
+sizesOf area directory entries transactions table =
+    record {
+      area = length area;
+      directory = length directory;
+      entries = length entries;
+      transactions = length transactions;
+      table = length table;
+    }
 
-abbrev pub SameLent : Panel → Panel → Type 0
-SameLent p q = (p .lent .area ≡ q .lent .area) × (p .lent .directory ≡ q .lent .directory)
+-- "none may exceed what there is"
+abbrev pub Within : Lent → Lent → Type 0
+Within lent whole =
+    (lent .area ≤ whole .area)
+    × (lent .directory ≤ whole .directory)
+    × (lent .entries ≤ whole .entries)
+    × (lent .transactions ≤ whole .transactions)
+    × (lent .table ≤ whole .table)

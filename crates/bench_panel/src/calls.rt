@@ -4,15 +4,10 @@ use crate::panel::Done;
 use crate::panel::Log;
 use crate::words;
 use crate::words::Number;
-use refusal::Refusal;
 use segment::Appended;
 use segment::Appending;
 use segment::Opened;
 use segment::Opening;
-
-pub fn print_refused(refusal: Refusal) {
-    console::print_line(b"refused", &[refusal.number()]);
-}
 
 fn print_size(name: &[u8], size: usize) {
     console::print_line(name, &[size as u64]);
@@ -28,7 +23,7 @@ fn opened(log: Log, name: &[u8], opening: Opening) -> Done {
             Log { manager, used }.done()
         }
         Opened::Refused(refusal) => {
-            print_refused(refusal);
+            console::print_refused(refusal);
             let used = log.used;
             Log { manager, used }.done()
         }
@@ -44,7 +39,7 @@ fn appended(log: Log, appending: Appending) -> Done {
             Log { manager, used }.done()
         }
         Appended::Refused(refusal) => {
-            print_refused(refusal);
+            console::print_refused(refusal);
             let used = log.used;
             Log { manager, used }.done()
         }

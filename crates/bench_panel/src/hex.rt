@@ -1,14 +1,9 @@
 // Bytes as lowercase hex digits, or `-` for none.
+use crate::words::Bytes;
 use libc::STDOUT_FILENO;
 ghost use Prim.Native.Nat.{_+_, _*_, _<_, _≤_};
 ghost use lib.ListN.{length};
 ghost use Rattle.io.specs.Counts.{Counts};
-
-// How many bytes a word stands for. A bad one stands for none.
-pub struct Bytes {
-    pub count: usize,
-    pub is_bad: bool,
-}
 
 // A digit's value, or 16 for any other byte.
 fn digit(byte: u8) -> u8 {

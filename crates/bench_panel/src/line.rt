@@ -3,109 +3,124 @@ use crate::calls;
 use crate::panel;
 use crate::panel::Done;
 use crate::panel::Lent;
+use crate::panel::Log;
 use crate::panel::Panel;
 use crate::panel::Turn;
+use crate::recoveries;
 use crate::sets;
 use crate::shows;
 use crate::words;
-use crate::words::Number;
-ghost use lib.ListN.{length};
-ghost use Rattle.bench_panel.specs.Lent.{SameLent, Within};
+ghost use Rattle.bench_panel.specs.Lent.{Within, sizesOf};
 
-enum Asked {
-    NoSizes,
-    Sizes(Lent),
+// The sizes that a line asks for. A bad one is 0.
+struct Sizes {
+    lent: Lent,
+    is_bad: bool,
 }
 
-fn sizes(text: &[u8]) -> Asked {
-    let Number::Value(area) = words::number_at(text, 1) else {
-        return Asked::NoSizes;
-    };
-    let Number::Value(directory) = words::number_at(text, 2) else {
-        return Asked::NoSizes;
-    };
-    let Number::Value(entries) = words::number_at(text, 3) else {
-        return Asked::NoSizes;
-    };
-    let Number::Value(transactions) = words::number_at(text, 4) else {
-        return Asked::NoSizes;
-    };
-    let Number::Value(table) = words::number_at(text, 5) else {
-        return Asked::NoSizes;
-    };
-    Asked::Sizes(Lent {
-        area: area as usize,
-        directory: directory as usize,
-        entries: entries as usize,
-        transactions: transactions as usize,
-        table: table as usize,
-    })
-}
-
-fn bad(panel: Panel) -> Turn
-    ensures { λ r. ⌜ SameLent (r .panel) panel ⌝ }
+fn asked(
+    area: &[u8],
+    directory: &[u8],
+    entries: &[u8],
+    transactions: &[u8],
+    table: &[u8],
+    text: &[u8],
+) -> Sizes
+    ensures { λ r. ⌜ Within (r .lent) (sizesOf (now (area .entry)) (now (directory .entry)) (now (entries .entry)) (now (transactions .entry)) (now (table .entry))) ⌝ }
 {
-    Turn {
-        panel,
-        is_bad: true,
+    let a = words::size_at(text, 1, area);
+    let d = words::size_at(text, 2, directory);
+    let e = words::size_at(text, 3, entries);
+    let t = words::size_at(text, 4, transactions);
+    let k = words::size_at(text, 5, table);
+    Sizes {
+        lent: Lent {
+            area: a.count,
+            directory: d.count,
+            entries: e.count,
+            transactions: t.count,
+            table: k.count,
+        },
+        is_bad: a.is_bad || d.is_bad || e.is_bad || t.is_bad || k.is_bad,
     }
 }
 
 // `lend A D E T K`
-fn lend(panel: Panel, area_len: usize, directory_len: usize, text: &[u8]) -> Turn
-    requires { ⌜ Within panel «area_len» «directory_len» ⌝ }
-    ensures { λ r. ⌜ Within (r .panel) «area_len» «directory_len» ⌝ }
+fn lend(
+    panel: Panel,
+    area: &[u8],
+    directory: &[u8],
+    entries: &[u8],
+    transactions: &[u8],
+    table: &[u8],
+    text: &[u8],
+) -> Turn
+    requires { ⌜ Within (panel .lent) (sizesOf (now area) (now directory) (now entries) (now transactions) (now table)) ⌝ }
+    ensures { λ r. ⌜ Within (r .panel .lent) (sizesOf (now (area .entry)) (now (directory .entry)) (now (entries .entry)) (now (transactions .entry)) (now (table .entry))) ⌝ }
 {
-    let Asked::Sizes(lent) = sizes(text) else {
-        return bad(panel);
-    };
-    if area_len < lent.area {
-        return bad(panel);
-    }
-    if directory_len < lent.directory {
-        return bad(panel);
-    }
-    if lent.exceeds_lists() {
-        return bad(panel);
+    let sizes = asked(area, directory, entries, transactions, table, text);
+    if sizes.is_bad {
+        return Turn {
+            panel,
+            is_bad: true,
+        };
     }
     panel::print_ok();
     let log = panel.log;
+    let lent = sizes.lent;
     Turn {
         panel: Panel { log, lent },
         is_bad: false,
     }
 }
 
-fn leaves(panel: Panel, done: Done) -> Turn
-    ensures { λ r. ⌜ SameLent (r .panel) panel ⌝ }
-{
-    let log = done.log;
-    let lent = panel.lent;
-    Turn {
-        panel: Panel { log, lent },
-        is_bad: done.is_bad,
+// A bad line changes nothing, so a line that is none of one kind is tried as one of the next.
+fn call(
+    log: Log,
+    area: &mut [u8],
+    directory: &mut [u8],
+    entries: &mut [u8],
+    transactions: &mut [u8],
+    table: &mut [u8],
+    text: &[u8],
+) -> Done {
+    let called = calls::line(log, area, directory, text);
+    if !called.is_bad {
+        return called;
     }
+    recoveries::line(log, area, directory, entries, transactions, table, text)
 }
 
 // The calls are handed the lent parts, and nothing else.
-fn call(panel: Panel, area: &mut [u8], directory: &mut [u8], text: &[u8]) -> Done
-    requires { ⌜ Within panel (length (now area)) (length (now directory)) ⌝ }
+fn lent_call(
+    panel: Panel,
+    area: &mut [u8],
+    directory: &mut [u8],
+    entries: &mut [u8],
+    transactions: &mut [u8],
+    table: &mut [u8],
+    text: &[u8],
+) -> Done
+    requires { ⌜ Within (panel .lent) (sizesOf (now area) (now directory) (now entries) (now transactions) (now table)) ⌝ }
 {
     let lent = panel.lent;
     let a = lent.area;
     let d = lent.directory;
-    calls::line(panel.log, &mut area[..a], &mut directory[..d], text)
+    let e = lent.entries;
+    let t = lent.transactions;
+    let k = lent.table;
+    call(
+        panel.log,
+        &mut area[..a],
+        &mut directory[..d],
+        &mut entries[..e],
+        &mut transactions[..t],
+        &mut table[..k],
+        text,
+    )
 }
 
-// A bad line changes nothing, so a line that is none of one kind is tried as one of the next.
-fn other(panel: Panel, area: &mut [u8], directory: &mut [u8], text: &[u8]) -> Done
-    requires { ⌜ Within panel (length (now area)) (length (now directory)) ⌝ }
-{
-    let called = call(panel, area, directory, text);
-    if !called.is_bad {
-        return called;
-    }
-    let log = panel.log;
+fn set_or_show(log: Log, area: &mut [u8], directory: &mut [u8], text: &[u8]) -> Done {
     let set = sets::line(log, area, directory, text);
     if !set.is_bad {
         return set;
@@ -113,13 +128,44 @@ fn other(panel: Panel, area: &mut [u8], directory: &mut [u8], text: &[u8]) -> Do
     shows::line(log, area, directory, text)
 }
 
-pub(crate) fn turn(panel: Panel, area: &mut [u8], directory: &mut [u8], text: &[u8]) -> Turn
-    requires { ⌜ Within panel (length (now area)) (length (now directory)) ⌝ }
-    ensures { λ r. ⌜ Within (r .panel) (length (now (area .entry))) (length (now (directory .entry))) ⌝ }
+fn other(
+    panel: Panel,
+    area: &mut [u8],
+    directory: &mut [u8],
+    entries: &mut [u8],
+    transactions: &mut [u8],
+    table: &mut [u8],
+    text: &[u8],
+) -> Done
+    requires { ⌜ Within (panel .lent) (sizesOf (now area) (now directory) (now entries) (now transactions) (now table)) ⌝ }
+{
+    let called = lent_call(panel, area, directory, entries, transactions, table, text);
+    if !called.is_bad {
+        return called;
+    }
+    set_or_show(panel.log, area, directory, text)
+}
+
+pub(crate) fn turn(
+    panel: Panel,
+    area: &mut [u8],
+    directory: &mut [u8],
+    entries: &mut [u8],
+    transactions: &mut [u8],
+    table: &mut [u8],
+    text: &[u8],
+) -> Turn
+    requires { ⌜ Within (panel .lent) (sizesOf (now area) (now directory) (now entries) (now transactions) (now table)) ⌝ }
+    ensures { λ r. ⌜ Within (r .panel .lent) (sizesOf (now (area .entry)) (now (directory .entry)) (now (entries .entry)) (now (transactions .entry)) (now (table .entry))) ⌝ }
 {
     if words::is(text, b"lend", 5) {
-        return lend(panel, area.len(), directory.len(), text);
+        return lend(panel, area, directory, entries, transactions, table, text);
     }
-    let done = other(panel, area, directory, text);
-    leaves(panel, done)
+    let done = other(panel, area, directory, entries, transactions, table, text);
+    let log = done.log;
+    let lent = panel.lent;
+    Turn {
+        panel: Panel { log, lent },
+        is_bad: done.is_bad,
+    }
 }

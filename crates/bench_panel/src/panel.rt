@@ -1,6 +1,5 @@
 // What the panel keeps from line to line, beside the buffers.
 use segment::SegmentManager;
-ghost use Rattle.bench_panel.specs.Lent.{Within};
 
 // What the calls are handed and change: the writer's state and the used count.
 pub struct Log {
@@ -38,6 +37,13 @@ pub fn print_ok() {
 }
 
 impl Log {
+    pub fn new() -> Self {
+        Log {
+            manager: SegmentManager::with_default_size(),
+            used: 0,
+        }
+    }
+
     pub fn bad(self) -> Done {
         Done {
             log: self,
@@ -49,39 +55,6 @@ impl Log {
         Done {
             log: self,
             is_bad: false,
-        }
-    }
-}
-
-impl Lent {
-    // Of the three buffers that no call takes yet.
-    pub fn exceeds_lists(self) -> bool {
-        if crate::buffers::ENTRIES < self.entries {
-            return true;
-        }
-        if crate::buffers::TRANSACTIONS < self.transactions {
-            return true;
-        }
-        crate::buffers::TABLE < self.table
-    }
-}
-
-impl Panel {
-    pub fn new() -> Self
-        ensures { λ r. ⌜ Within r 1_048_576 98_304 ⌝ }
-    {
-        Panel {
-            log: Log {
-                manager: SegmentManager::with_default_size(),
-                used: 0,
-            },
-            lent: Lent {
-                area: crate::buffers::AREA,
-                directory: crate::buffers::DIRECTORY,
-                entries: crate::buffers::ENTRIES,
-                transactions: crate::buffers::TRANSACTIONS,
-                table: crate::buffers::TABLE,
-            },
         }
     }
 }

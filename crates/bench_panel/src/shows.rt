@@ -1,6 +1,5 @@
 // The lines that change nothing, and names.
 use crate::buffers;
-use crate::calls;
 use crate::hex;
 use crate::panel::Done;
 use crate::panel::Log;
@@ -67,33 +66,33 @@ fn image(log: Log, area: &[u8], directory: &[u8], text: &[u8]) -> Done {
     log.done()
 }
 
-fn print_name(length: usize, target: &[u8]) {
-    io::write_all(STDOUT_FILENO, b"name ");
-    io::print_decimal(STDOUT_FILENO, length as u64);
+// A word, a number and a target's bytes.
+pub fn print_written(word: &[u8], number: u64, target: &[u8]) {
+    io::write_all(STDOUT_FILENO, word);
+    io::write_all(STDOUT_FILENO, b" ");
+    io::print_decimal(STDOUT_FILENO, number);
     print_bytes(b"", target);
 }
 
 fn name_into(id: u64, target: &mut [u8]) {
     match names::segment_name(id, target) {
-        Named::Written(length) => print_name(length, target),
-        Named::Refused(refusal) => calls::print_refused(refusal),
+        Named::Written(length) => print_written(b"name", length as u64, target),
+        Named::Refused(refusal) => console::print_refused(refusal),
     }
 }
 
-// `name ID SIZE`. Each byte of the target is 2a (hex) before the call.
+// `name ID SIZE`
 fn name(log: Log, text: &[u8]) -> Done {
     let Number::Value(id) = words::number_at(text, 1) else {
         return log.bad();
     };
-    let Number::Value(size) = words::number_at(text, 2) else {
-        return log.bad();
-    };
-    if 64 < size {
+    let mut target = buffers::target();
+    let size = words::size_at(text, 2, &target);
+    if size.is_bad {
         return log.bad();
     }
-    let size = size as usize;
-    let mut target = [0x2a; 64];
-    name_into(id, &mut target[..size]);
+    let n = size.count;
+    name_into(id, &mut target[..n]);
     log.done()
 }
 

@@ -1,8 +1,15 @@
 // The words of a line, and numbers. Words are separated by exactly one space.
 ghost use Prim.Native.Nat.{_≤_};
 ghost use lib.ListN.{length};
+ghost use Rattle.io.specs.Counts.{Counts};
 
 const MOST: u64 = 0xffff_ffff_ffff_ffff;
+
+// How many bytes of a buffer a word stands for. A bad one stands for none.
+pub struct Bytes {
+    pub count: usize,
+    pub is_bad: bool,
+}
 
 pub enum Number {
     NoNumber,
@@ -96,4 +103,25 @@ fn parse(text: &[u8]) -> Number {
 // Word K as a number.
 pub fn number_at(text: &[u8], k: usize) -> Number {
     parse(word(text, k))
+}
+
+// How many bytes of the buffer word K asks for. A number of more than it has is bad.
+pub fn size_at(text: &[u8], k: usize, buffer: &[u8]) -> Bytes
+    ensures { λ r. ⌜ Counts (r .count) (now (buffer .entry)) ⌝ }
+{
+    let bad = Bytes {
+        count: 0,
+        is_bad: true,
+    };
+    let Number::Value(size) = number_at(text, k) else {
+        return bad;
+    };
+    let count = size as usize;
+    if buffer.len() < count {
+        return bad;
+    }
+    Bytes {
+        count,
+        is_bad: false,
+    }
 }

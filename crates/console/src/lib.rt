@@ -1,11 +1,16 @@
 // What the programs share: a text cut at a byte, and lines on standard output. No contract can say what is written,
 // so the functions that print promise only that they end.
 use libc::STDOUT_FILENO;
+use refusal::Refusal;
 ghost use mathlib.Core.Path.{_≡_};
 ghost use Prim.Native.Nat.{_<_, _≤_};
 ghost use lib.ListN.{length};
 ghost use Rattle.io.specs.Counts.{Counts};
 ghost use Rattle.console.specs.Cut.{beforeOf, cutOf};
+
+mod report;
+
+pub use report::print_report;
 
 // How many bytes stand before the cut, and how many are passed with the byte that is cut at.
 pub struct Cut {
@@ -66,6 +71,10 @@ fn end_line() {
 fn print_number(number: u64) {
     io::write_all(STDOUT_FILENO, b" ");
     io::print_decimal(STDOUT_FILENO, number);
+}
+
+pub fn print_refused(refusal: Refusal) {
+    print_line(b"refused", &[refusal.number()]);
 }
 
 fn print_segment(directory: &[u8], k: usize) {

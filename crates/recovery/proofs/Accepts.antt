@@ -42,7 +42,7 @@ sound-fits area directory used b t =
     let rs = recordsOf used directory in
     record {
       entries = log-fits area NoSegment rs b (s .area) (s .rule);
-      count = omega (arith, log-length area rs (s .area), length-records used directory, s .used, s .directory);
+      count = omega (arith, log-length area 1_073_741_824 rs (s .area), length-records used directory, s .used, s .directory);
     }
 
 -- an accepted recovery

@@ -93,13 +93,13 @@ image-in : (area : List ℕ) (r : SegmentRecord) → length (segmentBytes area r
 unfolding segmentBytes
 image-in area r = rw (length-take (r .length) (drop (r .start) area), length-drop (r .start) area) (omega arith)
 
-pub log-length : (area : List ℕ) (rs : List SegmentRecord) → length area ≤ 1_073_741_824 → length (readLog area rs .entries) ≤ length rs * 1_073_741_824
+pub log-length : (area : List ℕ) (most : ℕ) (rs : List SegmentRecord) → length area ≤ most → 33 * length (readLog area rs .entries) ≤ length rs * most
 unfolding readLog
-log-length area [] h = omega arith
-log-length area (r ∷ rs) h =
+log-length area most [] h = omega arith
+log-length area most (r ∷ rs) h =
     let s = segmentBytes area r in
     rw (length-append (listedFrom (r .start) (readSegment s .good)) (readLog area rs .entries), length-listed (r .start) (readSegment s .good))
-    (omega (arith, read-count s, image-in area r, log-length area rs h))
+    (omega (arith, read-count s, image-in area r, log-length area most rs h))
 
 -- ---- the end of a call
 
@@ -137,7 +137,7 @@ pub recovers : (area directory : List ℕ) (used E T : ℕ) (es ts es₀ ts₀ :
 recovers area directory used E T es ts es₀ ts₀ p b t m n e =
     let s = sound-says (length area) directory used t in
     let rs = recordsOf used directory in
-    let l : length (readLog area rs .entries) < 2 ^ 64 = omega (arith, log-length area rs (s .area), length-records used directory, s .used, s .directory) in
+    let l : length (readLog area rs .entries) < 2 ^ 64 = omega (arith, log-length area 1_073_741_824 rs (s .area), length-records used directory, s .used, s .directory) in
     conclude E T (readLog area rs) p es ts (log-fits area NoSegment rs b (s .area) (s .rule)) l
     (rw (m, n) at e ∙ reach-log (emptyStart E T) area rs)
 

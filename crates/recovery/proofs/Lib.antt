@@ -4,3 +4,4 @@ pub mod Zeros
 pub mod Concludes
 pub mod Accepts
 pub mod Depends
+pub mod Enough

@@ -2,6 +2,7 @@
 -- Assumes nothing.
 use Prim.Native.Nat.{ℕ, _+_}
 use mathlib.Core.List.{List, [], _∷_, _++_, map}
+use lib.ListN.{length}
 use Rattle.directory.specs.Image.{segmentBytes}
 use Rattle.directory.specs.declared.record.SegmentRecord.{SegmentRecord}
 use Rattle.scan.specs.Read.{Good, Reading, readSegment}
@@ -29,3 +30,7 @@ andThen base segment rest =
 unfoldable pub readLog : List ℕ → List SegmentRecord → LogRead
 readLog area [] = record { entries = []; partial = 0; checksum = 0 }
 readLog area (r ∷ rs) = andThen (r .start) (readSegment (segmentBytes area r)) (readLog area rs)
+
+-- the record of a segment that is the whole area
+abbrev pub whole : List ℕ → SegmentRecord
+whole area = record { id = 1; start = 0; length = length area }

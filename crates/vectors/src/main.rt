@@ -1,6 +1,7 @@
-// Runs published vectors, and vectors of the libraries that the Rust leans on, against the code. A line for each
-// group says how many held of how many were run.
+// Runs published vectors, document 01's readings, and vectors of the libraries that the Rust leans on, against the code.
+// A line for each group says how many held of how many were run.
 mod allowed;
+mod checkpoints;
 mod checksums;
 mod coded;
 mod deletes;
@@ -8,6 +9,7 @@ mod inserts;
 mod lines;
 mod markers;
 mod readings;
+mod scanning;
 mod tally;
 mod texts;
 mod undecodable;
@@ -26,6 +28,8 @@ fn main() {
     texts::refused(none).print(b"utf-8 refused ");
     readings::all(none).print(b"entry readings ");
     writing::all(none).print(b"writer readings ");
+    scanning::all(none).print(b"scan readings ");
+    checkpoints::all(none).print(b"checkpoint readings ");
     payloads(none).print(b"bincode payloads ");
     allowed::all(none).print(b"bincode only read ");
     undecodable::all(none).print(b"bincode refused ");

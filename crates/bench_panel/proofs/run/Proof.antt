@@ -1,48 +1,37 @@
--- `bench_panel::run` is safe and ends. The invariant: the lent sizes stay within the buffers, and no more lines than bytes are passed.
+-- `bench_panel::run` is safe and ends: each turn passes a byte at least, and no lent size exceeds its buffer's.
 -- Assumes nothing.
 use mathlib.Core.Path.{_≡_, refl}
 use Prim.Native.Nat.{_-_, _≤_}
 use lib.ListN.{length}
-use Rattle.bench_panel.specs.Lent.{Within}
 use native.Mathlib.Omega.{arith}
 use borrow.Author.Needs.{needs}
+use Rattle.bench_panel.specs.Lent.{Within, sizesOf}
 use Rattle.bench_panel.proofs.run.Statement.{statement}
 use Rattle.bench_panel.proofs.run.Tie as tie
 
 abbrev Inv-loop : tie.InvT-loop
-Inv-loop script area₀ directory₀ panel₀ k₀ at₀ area directory panel k at =
+Inv-loop script area₀ directory₀ entries₀ transactions₀ table₀ panel₀ k₀ at₀ area directory entries transactions table panel k at =
     (length area ≡ length area₀)
     × (length directory ≡ length directory₀)
-    × Within panel (length area₀) (length directory₀)
+    × (length entries ≡ length entries₀)
+    × (length transactions ≡ length transactions₀)
+    × (length table ≡ length table₀)
+    × Within (panel .lent) (sizesOf area₀ directory₀ entries₀ transactions₀ table₀)
     × (at ≤ length script)
     × (k ≤ at)
 
 abbrev μ-loop : tie.MeasureT-loop
-μ-loop script area₀ directory₀ panel₀ k₀ at₀ area directory panel k at = length script - at
+μ-loop script area₀ directory₀ entries₀ transactions₀ table₀ panel₀ k₀ at₀ area directory entries transactions table panel k at =
+    length script - at
 
 new-requires : tie.Need-new-requires Inv-loop μ-loop
 new-requires c κs = search needs
 
 loop-holds : tie.Need-loop-holds Inv-loop μ-loop
-loop-holds c = (refl, refl, search needs, omega arith, omega arith)
+loop-holds c = (refl, refl, refl, refl, refl, search needs, omega arith, omega arith)
 
-sub-cut-at : tie.Need-sub-cut-at Inv-loop μ-loop
-sub-cut-at c = omega arith
-
-part-cut-at-start : tie.Need-part-cut-at-start Inv-loop μ-loop
-part-cut-at-start c = omega arith
-
-part-cut-at-end : tie.Need-part-cut-at-end Inv-loop μ-loop
-part-cut-at-end c = omega arith
-
-cut-at-requires : tie.Need-cut-at-requires Inv-loop μ-loop
-cut-at-requires c κs = search needs
-
-add-end : tie.Need-add-end Inv-loop μ-loop
-add-end c = omega arith
-
-add-next : tie.Need-add-next Inv-loop μ-loop
-add-next c = omega arith
+line-at-requires : tie.Need-line-at-requires Inv-loop μ-loop
+line-at-requires c κs = search needs
 
 add-k : tie.Need-add-k Inv-loop μ-loop
 add-k c = omega arith
@@ -60,20 +49,26 @@ answer-requires : tie.Need-answer-requires Inv-loop μ-loop
 answer-requires c κs = search needs
 
 loop-less : tie.Need-loop-less Inv-loop μ-loop
-loop-less c =
-    let passes = c .before .before .before .before .before .before .before .before .before .before .cut-at .ensures .1 .1 .1 (omega arith) in
-    omega arith
+loop-less c = omega arith
 
 loop-again : tie.Need-loop-again Inv-loop μ-loop
 loop-again c =
-    let passes = c .before .before .before .before .before .before .before .before .before .before .cut-at .ensures .1 .1 .1 (omega arith) in
-    (search needs, search needs, search needs, omega arith, omega arith)
+    (search needs, search needs, search needs, search needs, search needs, search needs, omega arith, omega arith)
 
 same-length : tie.Need-same-length Inv-loop μ-loop
 same-length c = search needs
 
 same-length-2 : tie.Need-same-length-2 Inv-loop μ-loop
 same-length-2 c = search needs
+
+same-length-3 : tie.Need-same-length-3 Inv-loop μ-loop
+same-length-3 c = search needs
+
+same-length-4 : tie.Need-same-length-4 Inv-loop μ-loop
+same-length-4 c = search needs
+
+same-length-5 : tie.Need-same-length-5 Inv-loop μ-loop
+same-length-5 c = search needs
 
 returns : tie.Need-returns Inv-loop μ-loop
 returns c = search needs
@@ -86,12 +81,7 @@ run-spec =
     μ-loop
     new-requires
     loop-holds
-    sub-cut-at
-    part-cut-at-start
-    part-cut-at-end
-    cut-at-requires
-    add-end
-    add-next
+    line-at-requires
     add-k
     sub-answer
     part-answer-start
@@ -101,4 +91,7 @@ run-spec =
     loop-again
     same-length
     same-length-2
+    same-length-3
+    same-length-4
+    same-length-5
     returns)
