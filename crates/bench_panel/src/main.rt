@@ -1,7 +1,8 @@
 // The bench panel: a console over the public calls. It reads a script of lines from standard input, and answers each.
 //
-// The calls are handed the lent parts of the buffers; every other line works on the buffers as a whole, whatever is
-// lent. A word has at least one byte, so two spaces together, or one at a line's end, make a bad line.
+// The calls are handed the lent parts of the buffers, and `lists` tells of those; every other line works on the buffers
+// as a whole, whatever is lent. A word has at least one byte, so two spaces together, or one at a line's end, make a bad
+// line.
 mod buffers;
 mod calls;
 mod hex;

@@ -16,7 +16,7 @@ use Rattle.records.specs.Sorted.{compareNumbers, put, recordOf, Ascends}
 use Rattle.records.proofs.Dense.{All}
 use Rattle.records.proofs.Sorted.{numbers-order, caseO, changedOr, put-length, put-ascends, put-record, put-other}
 use Rattle.lists.specs.Transactions.{noted, begun, txNumber, note, noteAll, transactionsOf, transactionOf}
-use Rattle.lists.specs.Markers.{hasNumber, markerOf, orElse, lastMarker, oneOf, countOf, saidOf, isThere}
+use Rattle.lists.specs.Markers.{hasNumber, markerOf, orElse, lastMarker, toCount, countOf, saidOf, isThere}
 use Rattle.lists.specs.declared.entries.EntryRecord.{EntryRecord}
 use Rattle.lists.specs.declared.transactions.RecoveryAction.{RecoveryAction}
 use Rattle.lists.specs.declared.transactions.RecoveryAction.the-variants.{Incomplete, Commit, Rollback}
@@ -26,20 +26,24 @@ use Rattle.lists.proofs.TransactionRecords.{TransactionFits}
 
 -- ---- one more entry of a transaction
 
--- its marker, or else the action it had; and one more, if it is no marker
-noted-is : (e : EntryRecord) (t : TransactionRecord) → noted e t ≡ record { «tx_id» = t .«tx_id»; action = orElse (markerOf (e .kind)) (t .action); count = t .count + oneOf (e .kind) }
-unfolding noted
-noted-is e t =
-    caseB (eqb (e .kind) 3)
-    (λ p. rw (p, add-zero))
-    (λ p. caseB (eqb (e .kind) 4) (λ q. rw (p, q, add-zero)) (λ q. rw (p, q)))
+orElse-assoc : (a b c : RecoveryAction) → orElse (orElse a b) c ≡ orElse a (orElse b c)
+orElse-assoc Incomplete b c = refl
+orElse-assoc Commit b c = refl
+orElse-assoc Rollback b c = refl
 
-begun-is : (e : EntryRecord) → begun e ≡ record { «tx_id» = e .«tx_id»; action = markerOf (e .kind); count = oneOf (e .kind) }
+orElse-none : (a : RecoveryAction) → orElse a Incomplete ≡ a
+orElse-none Incomplete = refl
+orElse-none Commit = refl
+orElse-none Rollback = refl
+
+-- its marker, or else the action it had; and one more, if it is no marker
+noted-is : (e : EntryRecord) (t : TransactionRecord) → noted e t ≡ record { «tx_id» = t .«tx_id»; action = orElse (markerOf (e .kind)) (t .action); count = t .count + toCount (e .kind) }
+unfolding noted
+noted-is e t = refl
+
+begun-is : (e : EntryRecord) → begun e ≡ record { «tx_id» = e .«tx_id»; action = markerOf (e .kind); count = toCount (e .kind) }
 unfolding begun noted
-begun-is e =
-    caseB (eqb (e .kind) 3)
-    (λ p. rw p)
-    (λ p. caseB (eqb (e .kind) 4) (λ q. rw (p, q)) (λ q. rw (p, q)))
+begun-is e = rw (orElse-none (markerOf (e .kind)), zero-add)
 
 module _ (e : EntryRecord) where
   noted-keeps : (t : TransactionRecord) → txNumber t ≡ e .«tx_id» → txNumber (noted e t) ≡ e .«tx_id»
@@ -93,16 +97,6 @@ note-other number e ts p =
     put-other compareNumbers numbers-order txNumber (e .«tx_id») (noted e) (begun e) (noted-keeps e) (begun-number e) number
     (λ q. eqb-false (e .«tx_id») number p (sym q)) ts
 
-orElse-assoc : (a b c : RecoveryAction) → orElse (orElse a b) c ≡ orElse a (orElse b c)
-orElse-assoc Incomplete b c = refl
-orElse-assoc Commit b c = refl
-orElse-assoc Rollback b c = refl
-
-orElse-none : (a : RecoveryAction) → orElse a Incomplete ≡ a
-orElse-none Incomplete = refl
-orElse-none Commit = refl
-orElse-none Rollback = refl
-
 -- from a number that has a record
 said-from : (number : ℕ) (es : List EntryRecord) (ts : List TransactionRecord) (t : TransactionRecord) → transactionOf number ts ≡ some t → transactionOf number (noteAll ts es) ≡ some (record { «tx_id» = t .«tx_id»; action = orElse (lastMarker number es) (t .action); count = t .count + countOf number es })
 unfolding noteAll lastMarker countOf
@@ -146,7 +140,7 @@ record Within (m : ℕ) (t : TransactionRecord) : Type 0 where
   «tx_id» : t .«tx_id» < 2 ^ 64
   count : t .count ≤ m
 
-one-most : (kind : ℕ) → oneOf kind ≤ 1
+one-most : (kind : ℕ) → toCount kind ≤ 1
 one-most kind =
     caseB (eqb kind 3) (λ p. rw p (omega arith)) (λ p. caseB (eqb kind 4) (λ q. rw (p, q) (omega arith)) (λ q. rw (p, q) (omega arith)))
 

@@ -10,7 +10,7 @@ use lib.Seq.{sets, drop-drop}
 use Rattle.fields.specs.Le.{leOf, leBytes, numAt}
 use Rattle.fields.proofs.Numbers.{length-bytes, num-front, num-skip}
 use Rattle.fields.proofs.Stores.{sets-join}
-use Rattle.lists.specs.Transactions.{actionNumber, actionOf, transactionAt, transactionBytes, with-one-more}
+use Rattle.lists.specs.Transactions.{actionNumber, actionOf, transactionAt, transactionBytes}
 use Rattle.lists.specs.declared.transactions.RecoveryAction.{RecoveryAction}
 use Rattle.lists.specs.declared.transactions.RecoveryAction.the-variants.{Incomplete, Commit, Rollback}
 use Rattle.lists.specs.declared.transactions.TransactionRecord.{TransactionRecord}
@@ -71,10 +71,10 @@ bytes-more (suc w) v q =
 bytes-wrap : (w v : ℕ) → leBytes w (v % 256 ^ w) ≡ leBytes w v
 bytes-wrap w v = sym (bytes-more w (v % 256 ^ w) (v / 256 ^ w)) ∙ ap (leBytes w) (div-add-mod v (256 ^ w))
 
--- one more, wrapped
-pub one-more : (t : TransactionRecord) (n : ℕ) → n ≡ (t .count + 1) % 2 ^ 64 → transactionBytes (record { «tx_id» = t .«tx_id»; action = t .action; count = n }) ≡ transactionBytes (with-one-more t)
+-- some more, wrapped
+pub some-more : (number : ℕ) (action : RecoveryAction) (count more n : ℕ) → n ≡ (count + more) % 2 ^ 64 → transactionBytes (record { «tx_id» = number; action = action; count = n }) ≡ transactionBytes (record { «tx_id» = number; action = action; count = count + more })
 unfolding transactionBytes
-one-more t n e = rw (e, bytes-wrap 8 (t .count + 1))
+some-more number action count more n e = rw (e, bytes-wrap 8 (count + more))
 
 -- the record at an offset, by its fields
 pub transaction-is : (s : List ℕ) (at : ℕ) → _≡_ {A = TransactionRecord} (record { «tx_id» = numAt at 8 s; action = actionOf (numAt (at + 8) 1 s); count = numAt (at + 16) 8 s }) (transactionAt (drop at s))

@@ -1,6 +1,6 @@
 pub mod Entries
-pub mod Transactions
 pub mod Markers
+pub mod Transactions
 pub mod Tally
 pub mod Admit
 pub mod Examples

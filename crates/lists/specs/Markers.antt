@@ -31,13 +31,18 @@ lastMarker number (e ∷ es) =
     orElse (lastMarker number es) (cond (eqb (e .«tx_id») number) (markerOf (e .kind)) Incomplete)
 
 -- one for an entry that is no marker
-abbrev pub oneOf : (kind : ℕ) → ℕ
-oneOf kind = cond (eqb kind 3) 0 (cond (eqb kind 4) 0 1)
+abbrev pub unmarked : RecoveryAction → ℕ
+unmarked Incomplete = 1
+unmarked Commit = 0
+unmarked Rollback = 0
+
+abbrev pub toCount : (kind : ℕ) → ℕ
+toCount kind = unmarked (markerOf kind)
 
 -- "All its non-marker entries belong to it, those after the marker too."
 unfoldable pub countOf : ℕ → List EntryRecord → ℕ
 countOf number [] = 0
-countOf number (e ∷ es) = cond (eqb (e .«tx_id») number) (oneOf (e .kind)) 0 + countOf number es
+countOf number (e ∷ es) = cond (eqb (e .«tx_id») number) (toCount (e .kind)) 0 + countOf number es
 
 -- what a log says of a number: its transaction, if an entry has the number
 unfoldable pub saidOf : ℕ → List EntryRecord → Option TransactionRecord

@@ -9,6 +9,7 @@ use lib.Dec.{eqb}
 use lib.ListN.{replicate}
 use Rattle.fields.specs.Le.{leBytes, numAt}
 use Rattle.records.specs.Sorted.{compareNumbers, put, recordOf}
+use Rattle.lists.specs.Markers.{markerOf, orElse, toCount}
 use Rattle.lists.specs.declared.entries.EntryRecord.{EntryRecord}
 use Rattle.lists.specs.declared.transactions.RecoveryAction.{RecoveryAction}
 use Rattle.lists.specs.declared.transactions.RecoveryAction.the-variants.{Incomplete, Commit, Rollback}
@@ -20,7 +21,7 @@ actionNumber Incomplete = 0
 actionNumber Commit = 1
 actionNumber Rollback = 2
 
--- the action of a byte; what is neither 1 nor 2 is none
+-- the action of a byte; what is neither 1 nor 2 is incomplete
 abbrev pub actionOf : ℕ → RecoveryAction
 actionOf n = cond (eqb n 1) Commit (cond (eqb n 2) Rollback Incomplete)
 
@@ -31,19 +32,15 @@ transactionBytes t = leBytes 8 (t .«tx_id») ++ (leBytes 1 (actionNumber (t .ac
 unfoldable pub transactionAt : List ℕ → TransactionRecord
 transactionAt s = record { «tx_id» = numAt 0 8 s; action = actionOf (numAt 8 1 s); count = numAt 16 8 s }
 
-abbrev pub with-action : TransactionRecord → RecoveryAction → TransactionRecord
-with-action t action = record { «tx_id» = t .«tx_id»; action = action; count = t .count }
-
-abbrev pub with-one-more : TransactionRecord → TransactionRecord
-with-one-more t = record { «tx_id» = t .«tx_id»; action = t .action; count = t .count + 1 }
-
--- one more entry of a transaction, by its kind: 3 is a commit marker, 4 an abort marker. "The last marker of a number
--- decides. All its non-marker entries belong to it, those after the marker too."
+-- one more entry of a transaction. "The last marker of a number decides. All its non-marker entries belong to it, those
+-- after the marker too."
 unfoldable pub noted : EntryRecord → TransactionRecord → TransactionRecord
 noted e t =
-    cond (eqb (e .kind) 3) (with-action t Commit)
-    (cond (eqb (e .kind) 4) (with-action t Rollback)
-    (with-one-more t))
+    record {
+      «tx_id» = t .«tx_id»;
+      action = orElse (markerOf (e .kind)) (t .action);
+      count = t .count + toCount (e .kind);
+    }
 
 -- a number that is met for the first time
 unfoldable pub begun : EntryRecord → TransactionRecord

@@ -5,6 +5,7 @@ use crate::transactions::TransactionRecord;
 use records::Found;
 ghost use mathlib.Core.Path.{_≡_};
 ghost use Prim.Native.Nat.{_≤_};
+ghost use Rattle.lists.specs.Markers.{markerOf, orElse, unmarked};
 ghost use Rattle.lists.specs.Transactions.{transactionBytes, noted, begun};
 ghost use Rattle.lists.specs.Admit.{noting, notedAt, beginOf, noteOf, noteIf, book, admitOf};
 
@@ -30,29 +31,49 @@ struct Noting {
     full: Full,
 }
 
-// One more entry of a transaction: 3 is a commit marker, 4 an abort marker. In any bytes a count may be 2^64 - 1; of the
-// sum a record holds the lowest 8 bytes.
+// The action that a kind marks: 3 is a commit marker, 4 an abort marker.
+fn marker(kind: u8) -> RecoveryAction
+    ensures { λ r. ⌜ r ≡ markerOf kind ⌝ }
+{
+    match kind {
+        3 => RecoveryAction::Commit,
+        4 => RecoveryAction::Rollback,
+        _ => RecoveryAction::Incomplete,
+    }
+}
+
+// "The last marker of a number decides."
+fn decided(marker: RecoveryAction, before: RecoveryAction) -> RecoveryAction
+    ensures { λ r. ⌜ r ≡ orElse marker before ⌝ }
+{
+    match marker {
+        RecoveryAction::Incomplete => before,
+        RecoveryAction::Commit => RecoveryAction::Commit,
+        RecoveryAction::Rollback => RecoveryAction::Rollback,
+    }
+}
+
+// "All its non-marker entries belong to it, those after the marker too": whatever stood before.
+fn to_count(marker: RecoveryAction, before: RecoveryAction) -> u64
+    ensures { λ r. ⌜ r ≡ unmarked marker ⌝ }
+{
+    match marker {
+        RecoveryAction::Incomplete => 1,
+        RecoveryAction::Commit => 0,
+        RecoveryAction::Rollback => 0,
+    }
+}
+
+// One more entry of a transaction. In any bytes a count may be 2^64 - 1; of the sum a record holds the lowest 8 bytes.
 fn noted(entry: EntryRecord, transaction: TransactionRecord) -> TransactionRecord
     ensures { λ r. ⌜ transactionBytes r ≡ transactionBytes (noted entry transaction) ⌝ }
 {
-    let kind = entry.kind;
-    let action = transaction.action;
-    match kind {
-        3 => TransactionRecord {
-            tx_id: transaction.tx_id,
-            action: RecoveryAction::Commit,
-            count: transaction.count,
-        },
-        4 => TransactionRecord {
-            tx_id: transaction.tx_id,
-            action: RecoveryAction::Rollback,
-            count: transaction.count,
-        },
-        _ => TransactionRecord {
-            tx_id: transaction.tx_id,
-            action,
-            count: std::num::wrapping_add_u64(transaction.count, 1),
-        },
+    let before = transaction.action;
+    let marker = marker(entry.kind);
+    TransactionRecord {
+        tx_id: transaction.tx_id,
+        action: decided(marker, before),
+        count: std::num::wrapping_add_u64(transaction.count, to_count(marker, before)),
     }
 }
 

@@ -35,15 +35,15 @@ use Rattle.recovery.proofs.Concludes.{log-fits, log-length, lists-sound
 pub record LogFits (log : LogRead) : Type 0 where
   pub entries : All EntryFits (log .entries)
   pub count : length (log .entries) < 2 ^ 64
+  -- a place in the list fits seven bytes
+  pub few : length (log .entries) < 2 ^ 56
 
 pub sound-fits : (area directory : List ℕ) (used : ℕ) → Bytes area → testOf (length area) directory used ≡ Sound → LogFits (readLog area (recordsOf used directory))
 sound-fits area directory used b t =
     let s = sound-says (length area) directory used t in
     let rs = recordsOf used directory in
-    record {
-      entries = log-fits area NoSegment rs b (s .area) (s .rule);
-      count = omega (arith, log-length area 1_073_741_824 rs (s .area), length-records used directory, s .used, s .directory);
-    }
+    let n : length (readLog area rs .entries) < 2 ^ 56 = omega (arith, log-length area 1_073_741_824 rs (s .area), length-records used directory, s .used, s .directory) in
+    record { entries = log-fits area NoSegment rs b (s .area) (s .rule); count = omega (arith, n); few = n }
 
 -- an accepted recovery
 pub record Accepted (area directory : List ℕ) (used : ℕ) (entries transactions : List ℕ) (values : Recovered) : Type 0 where

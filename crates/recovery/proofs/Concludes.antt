@@ -59,9 +59,9 @@ all-listed : (base : ℕ) (s : List ℕ) → base + length s ≤ 1_073_741_824 �
 all-listed base s h b [] e = tt
 all-listed base s h b (g ∷ gs) e = (listed-fits base s g h b (e .0), all-listed base s h b gs (e .1))
 
-all-both : (xs ys : List EntryRecord) → All EntryFits xs → All EntryFits ys → All EntryFits (xs ++ ys)
-all-both [] ys p q = q
-all-both (x ∷ xs) ys p q = (p .0, all-both xs ys (p .1) q)
+pub all-both : (P : EntryRecord → Type 0) (xs ys : List EntryRecord) → All P xs → All P ys → All P (xs ++ ys)
+all-both P [] ys p q = q
+all-both P (x ∷ xs) ys p q = (p .0, all-both P xs ys (p .1) q)
 
 -- a segment's image is not longer than its record says
 image-most : (area : List ℕ) (r : SegmentRecord) → length (segmentBytes area r) ≤ r .length
@@ -84,7 +84,7 @@ log-fits area last (r ∷ rs) b h e =
     let f = follows-says (length area) last r (p .0) in
     let s = segmentBytes area r in
     let fits : r .start + length s ≤ 1_073_741_824 = omega (arith, f .end, image-most area r) in
-    all-both (listedFrom (r .start) (readFrom s 0 .good)) (readLog area rs .entries)
+    all-both EntryFits (listedFrom (r .start) (readFrom s 0 .good)) (readLog area rs .entries)
     (all-listed (r .start) s fits (segment-bytes area r b) (readFrom s 0 .good) (read-each s 0))
     (log-fits area (afterRecord r) rs b h (p .1))
 

@@ -3,5 +3,6 @@ pub mod Ends
 pub mod Zeros
 pub mod Concludes
 pub mod Accepts
+pub mod EntriesIn
 pub mod Depends
 pub mod Enough

@@ -59,7 +59,7 @@ abbrev pub checkpointing : Checkpointed → List ℕ → List ℕ → List ℕ �
 checkpointing r entries transactions target =
     record { answer = checkpointedAs r; entries = entries; transactions = transactions; target = target }
 
--- the lists as recovery leaves them, with 10 too
+-- "With 10, the lists hold the recovery's results."
 abbrev pub after : Recovering → Advancing → Checkpointing
 after r a = record { answer = a .answer; entries = r .entries; transactions = r .transactions; target = a .target }
 

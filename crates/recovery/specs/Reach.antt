@@ -1,4 +1,5 @@
--- How far recovery has come while it reads: the two lists in bytes, and the damage counted so far.
+-- How far recovery has come while it reads: the two lists in bytes, and the damage counted so far. Inner functions are stated
+-- by it; no promise of a public call is.
 -- Assumes nothing.
 use Prim.Native.Nat.{ℕ, _+_}
 use mathlib.Core.List.{List, [], _∷_}

@@ -51,7 +51,7 @@ unfoldable pub recoveredOf : LogRead → Recovered
 recoveredOf log =
     record { stats = statsOf log; entries = length (log .entries); next = nextOf (highestIn (log .entries)) }
 
--- document 01's number, or the values of an accepted call
+-- document 01's number, or the values of an accepted call. "A refused answer's counts are all 0": it has none.
 pub data Answer : Type 0 where
   refused : (number : ℕ) → Answer
   recovered : (values : Recovered) → Answer

@@ -2,6 +2,9 @@
 use super::Recovery;
 use refusal::Refusal;
 ghost use mathlib.Core.Path.{_≡_};
+ghost use mathlib.Core.Bool.{cond};
+ghost use lib.Seq.{sets};
+ghost use Rattle.fields.specs.Le.{leBytes};
 ghost use Rattle.recovery.specs.Checkpoint.{checkpointAt, advancing, advanceIf, checkpointing, checkpointOf};
 
 // Of a checkpoint's image.
@@ -22,11 +25,19 @@ pub fn read_checkpoint(image: &[u8]) -> u64
 }
 
 // The target is written only where the checkpoint moves on.
-fn advance(exceeds: bool, highest: u64, target: &mut [u8]) -> Checkpointed
-    ensures { λ r. ⌜ advancing r (now (target .exit)) ≡ advanceIf exceeds highest (now (target .entry)) ⌝ }
+fn write_if(exceeds: bool, highest: u64, target: &mut [u8])
+    ensures { λ _. ⌜ now (target .exit) ≡ cond exceeds (sets (now (target .entry)) 0 (leBytes 8 highest)) (now (target .entry)) ⌝ }
 {
     if exceeds {
         fields::put_u64(target, 0, highest);
+    }
+}
+
+fn advance(exceeds: bool, highest: u64, target: &mut [u8]) -> Checkpointed
+    ensures { λ r. ⌜ advancing r (now (target .exit)) ≡ advanceIf exceeds highest (now (target .entry)) ⌝ }
+{
+    write_if(exceeds, highest, target);
+    if exceeds {
         return Checkpointed::At(highest);
     }
     Checkpointed::Refused(Refusal::NoNewCheckpoints)

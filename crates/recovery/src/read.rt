@@ -1,5 +1,4 @@
 // A log read into the two lists. No payload is copied, and the checksum's tables are made once a call.
-use directory::record::SegmentRecord;
 use entry::Place;
 use entry::WalEntry;
 use lists::admit::Full;
@@ -79,6 +78,14 @@ fn read_segment_entries(
     }
 }
 
+// "Each ends that segment only; the next is read.": whatever damage was counted.
+fn next_segment(k: usize, used: usize, progress: Progress) -> usize
+    requires { ⌜ k < used ⌝ }
+    ensures { λ r. ⌜ r ≡ k + 1 ⌝ }
+{
+    k + 1
+}
+
 // The segments by ascending id, which is the directory's order.
 pub(crate) fn read_log(
     area: &[u8],
@@ -115,7 +122,7 @@ pub(crate) fn read_log(
             transactions,
             progress,
         );
-        k += 1;
+        k = next_segment(k, used, progress);
     }
     progress
 }

@@ -33,7 +33,8 @@ keptOf area checkpoint (r ∷ q ∷ rs) =
     (keptOf area checkpoint (q ∷ rs))
     (r ∷ keptOf area checkpoint (q ∷ rs))
 
--- "The kept records close up in order, the freed ones become zero"; what is behind the used records stays
+-- "The kept records close up in order, the freed ones become zero"; what is behind the used records stays. "Area bytes stay":
+-- the area is only lent for reading
 unfoldable pub closedUp : List ℕ → (used : ℕ) → List SegmentRecord → List ℕ
 closedUp directory used kept = sets directory 0 (bytesOf recordBytes kept ++ replicate (24 * (used - length kept)) 0)
 

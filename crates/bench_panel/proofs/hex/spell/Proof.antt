@@ -5,7 +5,6 @@ use Prim.Native.Nat.{_-_, _≤_}
 use lib.ListN.{length, length-set}
 use lib.Seq.{length-take-le}
 use native.Mathlib.Omega.{arith}
-use native.Mathlib.Omega.{arith}
 use borrow.Author.Needs.{needs}
 use Rattle.bench_panel.proofs.hex.spell.Statement.{statement}
 use Rattle.bench_panel.proofs.hex.spell.Tie as tie

@@ -1,28 +1,30 @@
--- `lists::admit::noted` meets its contract: its cases are those of the definition.
+-- `lists::admit::noted` meets its contract: its marker, or else the action it had; and one more, if it is no marker.
 -- Assumes nothing.
-use borrow.Author.Tests.{ne-eqb}
+use mathlib.Core.Path.{_∙_}
 use Rattle.lists.specs.Transactions.{noted}
-use Rattle.lists.proofs.TransactionRecords.{one-more}
+use Rattle.lists.proofs.TransactionRecords.{some-more}
 use borrow.Author.Needs.{needs}
 use Rattle.lists.proofs.admit.noted.Statement.{statement}
 use Rattle.lists.proofs.admit.noted.Tie as tie
+
+marker-requires : tie.Need-marker-requires
+marker-requires c κs = search needs
+
+decided-requires : tie.Need-decided-requires
+decided-requires c κs = search needs
+
+to-count-requires : tie.Need-to-count-requires
+to-count-requires c κs = search needs
 
 wrapping-add-u64-requires : tie.Need-wrapping-add-u64-requires
 wrapping-add-u64-requires c κs = search needs
 
 returns : tie.Need-returns
 unfolding noted
-returns c = rw (c .match .keys1)
-
-returns-2 : tie.Need-returns-2
-unfolding noted
-returns-2 c = rw (c .match .keys2)
-
-returns-3 : tie.Need-returns-3
-unfolding noted
-returns-3 c =
-    let n = c .before .match .rest in
-    rw (ne-eqb _ _ (n .0 .1), ne-eqb _ _ (n .1)) (one-more (c .before .before .args .transaction) _ (c .wrapping-add-u64 .ensures))
+returns c =
+    let t = c .before .before .before .before .args .transaction in
+    some-more (t .«tx_id») _ (t .count) _ _ (c .wrapping-add-u64 .ensures)
+    ∙ rw (c .before .before .decided .ensures, c .before .to-count .ensures, c .before .before .before .marker .ensures)
 
 pub noted-spec : {M : Type 1} → statement M
-noted-spec = tie.close (tie.spec wrapping-add-u64-requires returns returns-2 returns-3)
+noted-spec = tie.close (tie.spec marker-requires decided-requires to-count-requires wrapping-add-u64-requires returns)

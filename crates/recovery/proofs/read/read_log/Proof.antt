@@ -57,16 +57,18 @@ read-segment-entries-requires c κs =
     let i = c .before .before .before .before .before .before .loop .inv .0 in
     (c .before .before .before .before .before .before .before .tables .ensures, omega (arith, ends-in (c .before .before .before .before), area-most (c .before .before .before .before), length-take (r .start + r .length - r .start) (drop (r .start) (c .before .before .before .before .before .before .before .before .before .before .before .before .args .area .now))), omega (arith, i .partial, s .used, s .directory), omega (arith, i .checksum, s .used, s .directory))
 
-add-k : tie.Need-add-k Inv-loop μ-loop
-add-k c = omega arith
+next-segment-requires : tie.Need-next-segment-requires Inv-loop μ-loop
+next-segment-requires c κs = omega arith
 
 loop-less : tie.Need-loop-less Inv-loop μ-loop
-loop-less c = omega arith
+loop-less c = omega (arith, c .next-segment .ensures)
 
 loop-again : tie.Need-loop-again Inv-loop μ-loop
 loop-again c =
-    let i = c .before .before .before .before .before .before .before .before .before .before .before .loop .inv in
-    (reading-part _ _ _ _ _ _ (omega arith) (c .before .before .before .before .before .before .before .before .before .record-at .result) (c .before .before .before .before .before .before .before .before .before .record-at .ensures) (i .0) _ (c .before .before .before .before .read-segment-entries .ensures), omega arith)
+    let n = c .next-segment .ensures in
+    let i = c .before .before .before .before .before .before .before .before .before .before .before .before .loop .inv in
+    let r = c .before .before .before .before .before .before .before .before .before .before .record-at in
+    rw n (reading-part _ _ _ _ _ _ (omega arith) (r .result) (r .ensures) (i .0) _ (c .before .before .before .before .before .read-segment-entries .ensures), omega arith)
 
 same-length : tie.Need-same-length Inv-loop μ-loop
 same-length c = c .before .loop .inv .0 .entries
@@ -91,7 +93,7 @@ read-log-spec =
     part-read-segment-entries-start
     part-read-segment-entries-end
     read-segment-entries-requires
-    add-k
+    next-segment-requires
     loop-less
     loop-again
     same-length

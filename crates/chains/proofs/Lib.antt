@@ -1,0 +1,9 @@
+pub mod Turns
+pub mod Last
+pub mod Records
+pub mod Spare
+pub mod Firsts
+pub mod Unlinking
+pub mod Linking
+pub mod Reading
+pub mod Walk

@@ -1,0 +1,31 @@
+-- `chains::chain::unlink` meets its contract: both lists, one after the other.
+-- Assumes nothing.
+use borrow.Author.Needs.{needs}
+use Rattle.chains.proofs.chain.unlink.Statement.{statement}
+use Rattle.chains.proofs.chain.unlink.Tie as tie
+
+unlink-entries-requires : tie.Need-unlink-entries-requires
+unlink-entries-requires c κs = search needs
+
+unlink-transactions-requires : tie.Need-unlink-transactions-requires
+unlink-transactions-requires c κs = search needs
+
+same-length : tie.Need-same-length
+same-length c = search needs
+
+same-length-2 : tie.Need-same-length-2
+same-length-2 c = search needs
+
+returns : tie.Need-returns
+returns c =
+    rw (c .before .before .before .before .before .before .unlink-entries .ensures, c .before .before .unlink-transactions .ensures)
+
+pub unlink-spec : {M : Type 1} → statement M
+unlink-spec =
+    tie.close
+    (tie.spec
+    unlink-entries-requires
+    unlink-transactions-requires
+    same-length
+    same-length-2
+    returns)
