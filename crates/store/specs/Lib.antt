@@ -1,0 +1,7 @@
+pub mod Order
+pub mod Change
+pub mod Left
+pub mod Apply
+pub mod Replay
+pub mod Running
+pub mod Examples
