@@ -1,5 +1,10 @@
-// The lists that recovery leaves: their records, and the checksums of their bytes.
+// The lists that recovery leaves and the table that replay leaves: their records, and the checksums of their bytes.
+use crate::hex;
+use crate::shows;
 use libc::STDOUT_FILENO;
+use table::row::RowRecord;
+ghost use Prim.Native.Nat.{_+_, _*_, _≤_};
+ghost use lib.ListN.{length};
 
 fn print_entry(entries: &[u8], k: usize) {
     let entry = lists::entries::entry_at(entries, k);
@@ -32,6 +37,45 @@ pub fn print_transactions(transactions: &[u8], n: usize) {
     let mut k = 0;
     while k < n {
         print_transaction(transactions, k);
+        k += 1;
+    }
+}
+
+// The bytes of a key or a value. What a length says beyond the table's end is not there.
+fn part(table: &[u8], at: usize, len: usize) -> &[u8]
+    requires { ⌜ at ≤ length (now table) ⌝ }
+{
+    if table.len() - at < len {
+        return &table[at..];
+    }
+    let end = at + len;
+    &table[at..end]
+}
+
+fn print_set(key: &[u8], value: &[u8]) {
+    io::write_all(STDOUT_FILENO, b"set ");
+    hex::print(key);
+    shows::print_bytes(b"", value);
+}
+
+fn print_row(table: &[u8], k: usize)
+    requires { ⌜ 320 * (k + 1) ≤ length (now table) ⌝ }
+{
+    let row = table::row::row_at(table, k);
+    if row.mark == table::row::LIVE {
+        let at = RowRecord::SIZE * k;
+        print_set(
+            part(table, at + table::row::KEY, row.key_len),
+            part(table, at + table::row::VALUE, row.value_len),
+        );
+    }
+}
+
+// `set KEY VALUE` for each live record.
+pub fn print_rows(table: &[u8]) {
+    let mut k = 0;
+    while k < table.len() / RowRecord::SIZE {
+        print_row(table, k);
         k += 1;
     }
 }

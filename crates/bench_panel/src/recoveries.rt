@@ -1,5 +1,5 @@
-// The lines that read the log back: recovery, checkpoint and truncation, and the lists that they leave. What they are
-// handed are the lent parts.
+// The lines that read the log back: recovery, replay, checkpoint and truncation, and the lists that they leave. What they
+// are handed are the lent parts.
 use crate::buffers;
 use crate::hex;
 use crate::listing;
@@ -30,6 +30,27 @@ fn recover(
 ) -> Done {
     match recovery::recover(area, directory, log.used, entries, transactions) {
         Recovery::Done(recovered) => print_recovered(recovered, entries, transactions),
+        Recovery::Refused(refusal) => console::print_refused(refusal),
+    }
+    log.done()
+}
+
+fn print_replayed(recovered: Recovered, table: &[u8]) {
+    console::print_report(recovered);
+    listing::print_rows(table);
+    console::print_line(b"end", &[]);
+}
+
+fn replay(
+    log: Log,
+    area: &[u8],
+    directory: &[u8],
+    entries: &mut [u8],
+    transactions: &mut [u8],
+    table: &mut [u8],
+) -> Done {
+    match store::recover_into_store(area, directory, log.used, entries, transactions, table) {
+        Recovery::Done(recovered) => print_replayed(recovered, table),
         Recovery::Refused(refusal) => console::print_refused(refusal),
     }
     log.done()
@@ -112,6 +133,9 @@ pub fn line(
 ) -> Done {
     if words::is(text, b"recover", 0) {
         return recover(log, area, directory, entries, transactions);
+    }
+    if words::is(text, b"replay", 0) {
+        return replay(log, area, directory, entries, transactions, table);
     }
     if words::is(text, b"checkpoint", 2) {
         return checkpoint(log, area, directory, entries, transactions, text);

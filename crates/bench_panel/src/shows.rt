@@ -33,7 +33,7 @@ fn segments(log: Log, directory: &[u8]) -> Done {
     log.done()
 }
 
-fn print_bytes(name: &[u8], bytes: &[u8]) {
+pub fn print_bytes(name: &[u8], bytes: &[u8]) {
     io::write_all(STDOUT_FILENO, name);
     io::write_all(STDOUT_FILENO, b" ");
     hex::print(bytes);

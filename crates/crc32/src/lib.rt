@@ -1,5 +1,5 @@
 // CRC-32 of ITU-T V.42, a byte at a time by a table.
-mod table;
+mod byte_table;
 
 ghost use mathlib.Core.Path.{_≡_};
 ghost use Rattle.crc32.specs.Crc.{register, crc32Of};
@@ -12,7 +12,7 @@ pub type Tables = [u32; 256];
 pub fn tables() -> Tables
     ensures { λ r. ⌜ r ≡ tablesOf ⌝ }
 {
-    table::TABLES
+    byte_table::TABLES
 }
 
 // The register after the bytes of data, from the register at their start.

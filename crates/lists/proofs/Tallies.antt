@@ -8,7 +8,8 @@ use lib.ListN.{length, drop}
 use lib.Seq.{drop-drop}
 use Rattle.records.specs.Dense.{recordsOf}
 use Rattle.lists.specs.Transactions.{transactionAt}
-use Rattle.lists.specs.Tally.{tallied, tallyOf, totalOf, ifCommitted, highestCommitted}
+use Rattle.lists.specs.Markers.{ifCommitted}
+use Rattle.lists.specs.Tally.{tallied, tallyOf, totalOf, highestCommitted}
 use Rattle.lists.specs.declared.transactions.RecoveryAction.{RecoveryAction}
 use Rattle.lists.specs.declared.transactions.RecoveryAction.the-variants.{Incomplete, Commit, Rollback}
 use Rattle.lists.specs.declared.transactions.Tally.{Tally}
@@ -48,7 +49,7 @@ module _ (n k : ℕ) (s : List ℕ) where
   unfolding tallyOf
   tally-turn h l = rw (records-turn h l)
 
-  pub highest-turn : 0 < k → k ≤ n → (let t = transactionAt (drop (24 * (k - 1)) s) in max (ifCommitted (t .action) (t .«tx_id»)) (highestCommitted (fromTo k n s))) ≡ highestCommitted (fromTo (k - 1) n s)
+  pub highest-turn : 0 < k → k ≤ n → (let t = transactionAt (drop (24 * (k - 1)) s) in max (ifCommitted (t .action) (t .«tx_id») 0) (highestCommitted (fromTo k n s))) ≡ highestCommitted (fromTo (k - 1) n s)
   unfolding highestCommitted
   highest-turn h l = rw (records-turn h l)
 

@@ -77,9 +77,9 @@ unfolding transactionBytes
 some-more number action count more n e = rw (e, bytes-wrap 8 (count + more))
 
 -- the record at an offset, by its fields
-pub transaction-is : (s : List ℕ) (at : ℕ) → _≡_ {A = TransactionRecord} (record { «tx_id» = numAt at 8 s; action = actionOf (numAt (at + 8) 1 s); count = numAt (at + 16) 8 s }) (transactionAt (drop at s))
+pub transaction-read : (s : List ℕ) (at : ℕ) → _≡_ {A = TransactionRecord} (record { «tx_id» = numAt at 8 s; action = actionOf (numAt (at + 8) 1 s); count = numAt (at + 16) 8 s }) (transactionAt (drop at s))
 unfolding transactionAt
-transaction-is s at = simp (drop-drop, add-zero)
+transaction-read s at = simp (drop-drop, add-zero)
 
 -- past the end
 pub transaction-past : (s : List ℕ) (at : ℕ) → length s ≤ at → _≡_ {A = TransactionRecord} (record { «tx_id» = 0; action = Incomplete; count = 0 }) (transactionAt (drop at s))

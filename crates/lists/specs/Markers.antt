@@ -24,6 +24,12 @@ orElse Incomplete action = action
 orElse Commit action = Commit
 orElse Rollback action = Rollback
 
+-- the one for a committed transaction, else the other
+abbrev pub ifCommitted : {A : Type 0} → RecoveryAction → A → A → A
+ifCommitted Commit a b = a
+ifCommitted Rollback a b = b
+ifCommitted Incomplete a b = b
+
 -- "The last marker of a number decides."
 unfoldable pub lastMarker : ℕ → List EntryRecord → RecoveryAction
 lastMarker number [] = Incomplete

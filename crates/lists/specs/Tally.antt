@@ -5,6 +5,7 @@ use mathlib.Core.Bool.{cond}
 use mathlib.Core.List.{List, [], _∷_}
 use lib.Dec.{leb}
 use lib.ListN.{length}
+use Rattle.lists.specs.Markers.{ifCommitted}
 use Rattle.lists.specs.Transactions.{transactionsOf}
 use Rattle.lists.specs.declared.admit.Full.{Full}
 use Rattle.lists.specs.declared.admit.Full.the-variants.{Room, Transactions, Entries}
@@ -29,15 +30,10 @@ tallyOf (t ∷ ts) = tallied (t .action) (tallyOf ts)
 abbrev pub totalOf : Tally → ℕ
 totalOf t = t .committed + t .aborted + t .incomplete
 
-abbrev pub ifCommitted : RecoveryAction → ℕ → ℕ
-ifCommitted Commit number = number
-ifCommitted Rollback number = 0
-ifCommitted Incomplete number = 0
-
 -- the "highest committed number"; 0 where there is none
 unfoldable pub highestCommitted : List TransactionRecord → ℕ
 highestCommitted [] = 0
-highestCommitted (t ∷ ts) = max (ifCommitted (t .action) (t .«tx_id»)) (highestCommitted ts)
+highestCommitted (t ∷ ts) = max (ifCommitted (t .action) (t .«tx_id») 0) (highestCommitted ts)
 
 -- which list, of so many records, is full for the entries of a log: "more accepted entries than entry records", before
 -- "more distinct numbers than transaction records"

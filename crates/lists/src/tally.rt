@@ -7,7 +7,8 @@ ghost use mathlib.Core.Path.{_≡_};
 ghost use Prim.Native.Nat.{max};
 ghost use Rattle.records.specs.Dense.{recordsOf};
 ghost use Rattle.lists.specs.Transactions.{transactionAt};
-ghost use Rattle.lists.specs.Tally.{tallyOf, ifCommitted, highestCommitted};
+ghost use Rattle.lists.specs.Markers.{ifCommitted};
+ghost use Rattle.lists.specs.Tally.{tallyOf, highestCommitted};
 
 // Of the first n transactions.
 pub fn tally(transactions: &[u8], n: usize) -> Tally
@@ -30,7 +31,7 @@ pub fn tally(transactions: &[u8], n: usize) -> Tally
 
 // Its number if a transaction is committed, else 0.
 fn if_committed(transaction: TransactionRecord) -> u64
-    ensures { λ r. ⌜ r ≡ ifCommitted (transaction .action) (transaction .«tx_id») ⌝ }
+    ensures { λ r. ⌜ r ≡ ifCommitted (transaction .action) (transaction .«tx_id») 0 ⌝ }
 {
     let action = transaction.action;
     match action {

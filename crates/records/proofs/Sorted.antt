@@ -1,7 +1,8 @@
 -- The laws of records that strictly ascend by a key, over any comparison that is an order.
 -- Assumes nothing.
 use mathlib.Core.Path.{_≡_, refl, sym, ap, _∙_}
-use mathlib.Core.List.{List, [], _∷_, _++_}
+use mathlib.Core.Logic.{⊎-elim}
+use mathlib.Core.List.{List, [], _∷_, _++_, List·Memᴰ, List·Memᴰ·head, List·Memᴰ·tail, List·Memᴰ·not-nil, List·Memᴰ·cases-cons}
 use mathlib.Core.Option.{Option, none, some}
 use Prim.Native.Nat.{ℕ, suc, _<_, _≤_}
 use native.Mathlib.Omega.{arith}
@@ -342,3 +343,94 @@ module _ {K R : Type 0} (compare : K → K → Ordering) (order : IsOrder compar
       rw q
       (caseApart compare order j k n (λ p. rw (e, p)) (λ p. rw (record-greater compare order key j r rs (rw e p) (a .0), e, p))))
       (λ q. rw q)
+
+-- ---- which keys have a record
+
+-- the key has a record
+abbrev pub Has : {K R : Type 0} → (compare : K → K → Ordering) → (key : R → K) → K → List R → Type 0
+Has compare key k rs = recordOf compare key k rs ≡ none → ⊥
+
+-- two keys are the same, or apart
+module _ {A K : Type 0} (compare : K → K → Ordering) (order : IsOrder compare) where
+  caseSame : (j k : K) → (j ≡ k → A) → ((j ≡ k → ⊥) → A) → A
+  caseSame j k f g =
+      caseO (compare j k)
+      (λ q. g (λ e. let z : _≡_ {A = ℕ} 0 1 = cc (order .same k) in omega arith))
+      (λ q. f (order .equal j k q))
+      (λ q. g (λ e. let z : _≡_ {A = ℕ} 0 1 = cc (order .same k) in omega arith))
+
+-- after a put its key has one, and so has each that had one
+module _ {K R : Type 0} (compare : K → K → Ordering) (order : IsOrder compare) (key : R → K) (k : K) (change : R → R) (new : R) (keeps : (r : R) → key r ≡ k → key (change r) ≡ k) (fresh : key new ≡ k) where
+  pub put-has : (rs : List R) → Has compare key k (put compare key k change new rs)
+  put-has rs e = let z : _≡_ {A = ℕ} 0 1 = cc (put-record compare order key k change new keeps fresh rs) in omega arith
+
+  pub put-had : (j : K) (rs : List R) → Has compare key j rs → Has compare key j (put compare key k change new rs)
+  put-had j rs h e =
+      caseSame compare order j k
+      (λ p. put-has rs (rw p at e))
+      (λ n. h (sym (put-other compare order key k change new keeps fresh j n rs) ∙ e))
+
+-- ---- ascending records as a list
+
+all-member : {R : Type 0} (Good : R → Type 0) (r : R) (rs : List R) → All Good rs → List·Memᴰ r rs → Good r
+all-member Good r [] gs m = absurd (List·Memᴰ·not-nil m)
+all-member Good r (s ∷ rs) gs m =
+    ⊎-elim (λ e. rw e (gs .0)) (λ n. all-member Good r rs (gs .1) n) (List·Memᴰ·cases-cons m)
+
+module _ {K R : Type 0} (compare : K → K → Ordering) (order : IsOrder compare) (key : R → K) where
+  abbrev pub Behind : K → List R → Type 0
+  Behind k rs = All (λ (r : R). compare k (key r) ≡ Less) rs
+
+  all-behind : (k : K) (r : R) (rs : List R) → compare k (key r) ≡ Less → Ascends compare key (r ∷ rs) → Behind k (r ∷ rs)
+  all-behind k r [] h a = (h, tt)
+  all-behind k r (q ∷ rs) h a = (h, all-behind k q rs (order .trans k (key r) (key q) h (a .0)) (a .1))
+
+  -- all stand behind the first
+  pub rest-behind : (k : K) (r : R) (rs : List R) → k ≡ key r → Ascends compare key (r ∷ rs) → Behind k rs
+  rest-behind k r [] e a = tt
+  rest-behind k r (q ∷ rs) e a = all-behind k q rs (rw e (a .0)) (a .1)
+
+  -- each of them is its key's record
+  pub member-record : (r : R) (rs : List R) → Ascends compare key rs → List·Memᴰ r rs → recordOf compare key (key r) rs ≡ some r
+  member-record r [] a m = absurd (List·Memᴰ·not-nil m)
+  member-record r (s ∷ rs) a m =
+      ⊎-elim
+      (λ e. rw e (record-first compare order key s rs))
+      (λ n.
+      let later = all-member (λ (q : R). compare (key s) (key q) ≡ Less) r rs (rest-behind (key s) s rs refl a) n in
+      record-later compare order key (key r) s rs later ∙ member-record r rs (a .1) n)
+      (List·Memᴰ·cases-cons m)
+
+  -- a key's record is one of them
+  pub record-member : (k : K) (r : R) (rs : List R) → recordOf compare key k rs ≡ some r → List·Memᴰ r rs
+  unfolding recordOf
+  record-member k r [] e = let z : _≡_ {A = ℕ} 0 1 = cc in absurd (omega arith)
+  record-member k r (s ∷ rs) e =
+      caseO (compare (key s) k)
+      (λ q. List·Memᴰ·tail (record-member k r rs (rw q at e)))
+      (λ q. let f : some s ≡ some r = rw q at e in List·Memᴰ·head (sym cc))
+      (λ q. let f : none ≡ some r = rw q at e in let z : _≡_ {A = ℕ} 0 1 = cc in absurd (omega arith))
+
+-- ---- how many there are
+
+-- ascending records, and others of the same keys
+module _ {K R S : Type 0} (compare : K → K → Ordering) (order : IsOrder compare) (key : R → K) (other : S → K) where
+  -- each key has a record among the others
+  abbrev pub Among : List S → List R → Type 0
+  Among ss rs = All (λ (r : R). Has compare other (key r) ss) rs
+
+  -- what stands behind the first of the others is found behind it
+  among-behind : (s : S) (ss : List S) (rs : List R) → Behind compare order key (other s) rs → Among (s ∷ ss) rs → Among ss rs
+  among-behind s ss [] hs gs = tt
+  among-behind s ss (r ∷ rs) hs gs =
+      (λ e. gs .0 (record-later compare order other (key r) s ss (hs .0) ∙ e), among-behind s ss rs (hs .1) (gs .1))
+
+  -- they are no more than the others
+  pub no-more : (ss : List S) (rs : List R) → Ascends compare key rs → Among ss rs → length rs ≤ length ss
+  no-more ss [] a gs = omega arith
+  no-more [] (r ∷ rs) a gs = absurd (gs .0 (record-none compare order other (key r)))
+  no-more (s ∷ ss) (r ∷ rs) a gs =
+      caseO (compare (other s) (key r))
+      (λ q. omega (arith, no-more ss (r ∷ rs) a (among-behind s ss (r ∷ rs) (all-behind compare order key (other s) r rs q a) gs)))
+      (λ q. omega (arith, no-more ss rs (a .1) (among-behind s ss rs (rest-behind compare order key (other s) r rs (order .equal (other s) (key r) q) a) (gs .1))))
+      (λ q. absurd (gs .0 (record-less compare order other (key r) s ss q)))

@@ -1,14 +1,12 @@
--- What a store makes of the parts of a list, and the turns of the loops that move words.
+-- What a store makes of the parts of a list, and the turns of the loops that move bytes.
 -- Assumes nothing.
-use mathlib.Core.Path.{_≡_, refl, _∙_}
+use mathlib.Core.Path.{_≡_, refl, ap, _∙_}
 use mathlib.Core.List.{List, [], _∷_, _++_, append-assoc}
 use Prim.Native.Nat.{ℕ, suc, _+_, _-_, _*_, _<_, _≤_}
 use native.Mathlib.Nat.{add-zero}
 use native.Mathlib.Omega.{arith}
-use lib.ListN.{length, take, drop, set, length-append, length-take, length-drop}
-use lib.Seq.{sets, sets-eq, set-comm, take-at, drop-at, take-add, drop-drop}
-use Rattle.fields.specs.Le.{Bytes, leBytes, numAt}
-use Rattle.fields.proofs.Numbers.{field-back}
+use lib.ListN.{length, take, drop, set, getD, length-append, length-take, length-drop}
+use lib.Seq.{sets, sets-eq, set-comm, take-at, drop-at, drop-cons, take-add, drop-drop}
 use Rattle.fields.proofs.Stores.{take-sets, drop-sets, behind-sets, sets-join}
 
 -- a part is stored over by another of its length
@@ -44,30 +42,34 @@ sets-remove pre over part post new i j e f g =
     sets-join (pre ++ (over ++ (part ++ post))) part new i j (omega arith)
     ∙ rw (← append-assoc over part post, sets-part pre (over ++ part) post (part ++ new) i e n, append-assoc)
 
--- the loop that moves k words up: a turn, from the last word to the first
-pub up-turn : (s : List ℕ) (at k by : ℕ) → Bytes s → 0 < k → at + by + 8 * k ≤ length s
-    → sets (sets s (at + by + 8 * (k - 1)) (leBytes 8 (numAt (at + 8 * (k - 1)) 8 s))) (at + by) (take (8 * (k - 1)) (drop at (sets s (at + by + 8 * (k - 1)) (leBytes 8 (numAt (at + 8 * (k - 1)) 8 s))))) ≡ sets s (at + by) (take (8 * k) (drop at s))
-up-turn s at k by b h l =
-    let m = 8 * (k - 1) in
-    let front = take m (drop at s) in
-    let word = take 8 (drop (at + m) s) in
-    let e : at + by + m ≡ at + (by + m) = omega arith in
-    let f : 8 * k ≡ m + 8 = omega arith in
-    let n : length front ≡ m = simp (length-take, length-drop) (omega arith) in
-    let w : leBytes 8 (numAt (at + m) 8 s) ≡ word = field-back s (at + m) 8 (omega arith) b in
-    let kept : take m (drop at (sets s (at + by + m) word)) ≡ front =
-    rw (e, drop-sets at s word (by + m)) (take-sets m (drop at s) word (by + m) (omega arith)) in
-    rw (w, kept, sets-before s front word (at + by) (at + by + m) (rw n), f, take-add m 8 (drop at s), drop-drop)
+-- a byte, as the list that a store takes
+one-at : (s : List ℕ) (i : ℕ) → i < length s → take 1 (drop i s) ≡ getD s i 0 ∷ []
+one-at s i h = rw (drop-cons s i 0 h)
 
--- the loop that moves the words down behind those that it has moved: a turn, from the first word to the last
-pub down-turn : (s : List ℕ) (at words by m : ℕ) → Bytes s → m < words → at + by + 8 * words ≤ length s
-    → sets (sets s (at + 8 * m) (leBytes 8 (numAt (at + by + 8 * m) 8 s))) (at + 8 * (m + 1)) (take (8 * (words - (m + 1))) (drop (at + by + 8 * (m + 1)) (sets s (at + 8 * m) (leBytes 8 (numAt (at + by + 8 * m) 8 s))))) ≡ sets s (at + 8 * m) (take (8 * (words - m)) (drop (at + by + 8 * m) s))
-down-turn s at words by m b h l =
-    let word = take 8 (drop (at + by + 8 * m) s) in
-    let rest = take (8 * (words - (m + 1))) (drop (at + by + 8 * (m + 1)) s) in
-    let n : length word ≡ 8 = simp (length-take, length-drop) (omega arith) in
-    let w : leBytes 8 (numAt (at + by + 8 * m) 8 s) ≡ word = field-back s (at + by + 8 * m) 8 (omega arith) b in
-    let e : 8 * (words - m) ≡ 8 + 8 * (words - (m + 1)) = omega arith in
-    let f : at + by + 8 * (m + 1) ≡ at + by + 8 * m + 8 = omega arith in
-    rw (w, behind-sets (at + by + 8 * (m + 1)) s word (at + 8 * m) (omega arith), e, take-add 8 (8 * (words - (m + 1))) (drop (at + by + 8 * m) s), drop-drop, ← f)
-    (sets-join s word rest (at + 8 * m) (at + 8 * (m + 1)) (omega arith))
+-- the loop that moves k bytes up: a turn, from the last byte to the first
+pub up-turn : (s : List ℕ) (at k by : ℕ) → 0 < k → at + by + k ≤ length s
+    → sets (set s (at + by + (k - 1)) (getD s (at + (k - 1)) 0)) (at + by) (take (k - 1) (drop at (set s (at + by + (k - 1)) (getD s (at + (k - 1)) 0)))) ≡ sets s (at + by) (take k (drop at s))
+up-turn s at k by h l =
+    let m = k - 1 in
+    let front = take m (drop at s) in
+    let byte = getD s (at + m) 0 ∷ [] in
+    let e : at + by + m ≡ at + (by + m) = omega arith in
+    let f : k ≡ m + 1 = omega arith in
+    let n : length front ≡ m = simp (length-take, length-drop) (omega arith) in
+    let w : take 1 (drop (at + m) s) ≡ byte = one-at s (at + m) (omega arith) in
+    let kept : take m (drop at (sets s (at + by + m) byte)) ≡ front =
+    rw (e, drop-sets at s byte (by + m)) (take-sets m (drop at s) byte (by + m) (omega arith)) in
+    let all : take k (drop at s) ≡ front ++ byte = ap (λ (j : ℕ). take j (drop at s)) f ∙ take-add m 1 (drop at s) ∙ rw (drop-drop, w) in
+    rw (kept, sets-before s front byte (at + by) (at + by + m) (rw n), all)
+
+-- the loop that moves bytes down behind the m that it has moved: a turn, from the first byte to the last
+pub down-turn : (s : List ℕ) (at n by m : ℕ) → m < n → at + by + n ≤ length s
+    → sets (set s (at + m) (getD s (at + by + m) 0)) (at + (m + 1)) (take (n - (m + 1)) (drop (at + by + (m + 1)) (set s (at + m) (getD s (at + by + m) 0)))) ≡ sets s (at + m) (take (n - m) (drop (at + by + m) s))
+down-turn s at n by m h l =
+    let byte = getD s (at + by + m) 0 ∷ [] in
+    let rest = take (n - (m + 1)) (drop (at + by + (m + 1)) s) in
+    let w : take 1 (drop (at + by + m) s) ≡ byte = one-at s (at + by + m) (omega arith) in
+    let e : n - m ≡ 1 + (n - (m + 1)) = omega arith in
+    let f : at + by + (m + 1) ≡ at + by + m + 1 = omega arith in
+    rw (behind-sets (at + by + (m + 1)) s byte (at + m) (omega arith), e, take-add 1 (n - (m + 1)) (drop (at + by + m) s), drop-drop, w, ← f)
+    (sets-join s byte rest (at + m) (at + (m + 1)) (omega arith))

@@ -20,16 +20,16 @@ fn lie_in(len: usize, at: usize, words: usize, by: usize) -> bool
     words <= (len - at - by) / 8
 }
 
-// The last word first: a word may be moved over those behind it, which stand in their places by then.
+// The last byte first: a byte may be moved over those behind it, which stand in their places by then. The compiler makes a
+// move of blocks of this loop; by `fields::get_u64` each word would be held against the buffer's end once more.
 fn move_words_up(s: &mut [u8], at: usize, words: usize, by: usize)
     requires { ⌜ at + by + 8 * words ≤ length (now s) ⌝ }
     ensures { λ _. ⌜ now (s .exit) ≡ sets (now (s .entry)) (at + by) (take (8 * words) (drop at (now (s .entry)))) ⌝ }
 {
-    let mut left = words;
+    let mut left = 8 * words;
     while 0 < left {
         left -= 1;
-        let word = fields::get_u64(s, at + 8 * left);
-        fields::put_u64(s, at + by + 8 * left, word);
+        s[at + by + left] = s[at + left];
     }
 }
 
@@ -42,15 +42,14 @@ pub fn move_up(s: &mut [u8], at: usize, words: usize, by: usize)
     }
 }
 
-// The first word first: a word may be moved over those before it, which stand in their places by then.
+// The first byte first: a byte may be moved over those before it, which stand in their places by then.
 fn move_words_down(s: &mut [u8], at: usize, words: usize, by: usize)
     requires { ⌜ at + by + 8 * words ≤ length (now s) ⌝ }
     ensures { λ _. ⌜ now (s .exit) ≡ sets (now (s .entry)) at (take (8 * words) (drop (at + by) (now (s .entry)))) ⌝ }
 {
     let mut moved = 0;
-    while moved < words {
-        let word = fields::get_u64(s, at + by + 8 * moved);
-        fields::put_u64(s, at + 8 * moved, word);
+    while moved < 8 * words {
+        s[at + moved] = s[at + by + moved];
         moved += 1;
     }
 }

@@ -1,14 +1,14 @@
 -- Each entry of a log's list leads to a payload that lies in the area and decodes.
 -- Assumes nothing.
 use mathlib.Core.Path.{_≡_, refl}
-use mathlib.Core.List.{List, [], _∷_, _++_}
+use mathlib.Core.List.{List, [], _∷_}
 use Prim.Native.Nat.{ℕ, zero, suc, _+_, _-_, _≤_}
 use native.Mathlib.Omega.{arith}
 use lib.ListN.{length, take, drop, length-take, length-drop}
 use lib.Seq.{take-take, drop-drop}
 use Rattle.directory.specs.Image.{segmentBytes}
 use Rattle.directory.specs.declared.record.SegmentRecord.{SegmentRecord}
-use Rattle.entry.specs.Decode.{bytesAt, endOf}
+use Rattle.entry.specs.Decode.{bytesAt}
 use Rattle.scan.specs.Read.{Good, readFrom, readSegment}
 use Rattle.scan.proofs.Goods.{Each, GoodIn, read-each}
 use Rattle.records.proofs.Dense.{All}

@@ -1,6 +1,5 @@
 pub mod Reaches
 pub mod Ends
-pub mod Zeros
 pub mod Concludes
 pub mod Accepts
 pub mod EntriesIn

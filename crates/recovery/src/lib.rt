@@ -5,7 +5,7 @@ use lists::admit::Full;
 use read::Progress;
 use refusal::Refusal;
 ghost use mathlib.Core.Path.{_≡_};
-ghost use lib.ListN.{length, replicate};
+ghost use lib.ListN.{length};
 ghost use Rattle.directory.specs.Record.{recordsOf};
 ghost use Rattle.directory.specs.Rule.{testOf};
 ghost use Rattle.directory.specs.declared.rule.Tested.the-variants.{Sound};
@@ -95,19 +95,12 @@ fn results(transactions: &[u8], progress: Progress) -> Recovered
     }
 }
 
-// Zero throughout, and not only where records stand.
-fn clear(list: &mut [u8])
-    ensures { λ _. ⌜ now (list .exit) ≡ replicate (length (now (list .entry))) 0 ⌝ }
-{
-    fields::bytes::zero(list, 0, list.len());
-}
-
 // 6 and 7 leave both lists zero throughout.
 fn refused_empty(entries: &mut [u8], transactions: &mut [u8], refusal: Refusal) -> Recovery
     ensures { λ r. ⌜ recovering r (now (entries .exit)) (now (transactions .exit)) ≡ refusedEmpty refusal (length (now (entries .entry))) (length (now (transactions .entry))) ⌝ }
 {
-    clear(entries);
-    clear(transactions);
+    fields::bytes::clear(entries);
+    fields::bytes::clear(transactions);
     Recovery::Refused(refusal)
 }
 
@@ -134,8 +127,8 @@ fn recover_tested(
     requires { ⌜ testOf (length (now area)) (now directory) used ≡ Sound ⌝ }
     ensures { λ r. ⌜ recovering r (now (entries .exit)) (now (transactions .exit)) ≡ readInto (readLog (now (area .entry)) (recordsOf used (now (directory .entry)))) (length (now (entries .entry))) (length (now (transactions .entry))) ⌝ }
 {
-    clear(entries);
-    clear(transactions);
+    fields::bytes::clear(entries);
+    fields::bytes::clear(transactions);
     let progress = read::read_log(area, directory, used, entries, transactions);
     concluded(entries, transactions, progress)
 }

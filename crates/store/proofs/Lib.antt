@@ -1,6 +1,7 @@
 pub mod Applies
 pub mod Runs
 pub mod Orders
+pub mod Committed
 pub mod Tabling
 pub mod Walking
 pub mod Replaying

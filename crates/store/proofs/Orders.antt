@@ -10,13 +10,14 @@ use lib.ListN.{length, drop}
 use lib.Seq.{drop-drop}
 use Rattle.fields.proofs.Cases.{caseB}
 use Rattle.records.specs.Dense.{recordsOf}
+use Rattle.lists.specs.Markers.{ifCommitted}
 use Rattle.lists.specs.Transactions.{transactionAt, transactionsOf}
 use Rattle.lists.specs.declared.transactions.RecoveryAction.{RecoveryAction}
 use Rattle.lists.specs.declared.transactions.RecoveryAction.the-variants.{Incomplete, Commit, Rollback}
 use Rattle.lists.specs.declared.transactions.TransactionRecord.{TransactionRecord}
 use Rattle.chains.proofs.Reading.{transactions-read}
-use Rattle.store.specs.Order.{ifCommitted, committedOf, replayOrder, nextFrom}
-use Rattle.store.specs.Running.{entriesIn, transactionsFrom, Linked}
+use Rattle.store.specs.Order.{committedOf, replayOrder}
+use Rattle.store.specs.Running.{transactionsFrom, nextFrom, entriesIn, Linked}
 
 if-so : {A : Type 0} (a : RecoveryAction) (x y : A) → ifCommitted a true false ≡ true → ifCommitted a x y ≡ x
 if-so Commit x y e = refl

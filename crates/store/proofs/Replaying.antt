@@ -15,9 +15,9 @@ use Rattle.table.specs.declared.Set.{Set}
 use Rattle.table.specs.declared.Set.the-variants as Sets
 use Rattle.table.proofs.Set.{the-type}
 use Rattle.table.proofs.Tables.{Held}
-use Rattle.store.specs.Order.{nextFrom, entriesInTurn, replayed}
+use Rattle.store.specs.Order.{entriesInTurn, replayed}
 use Rattle.store.specs.Change.{andThen, runOf}
-use Rattle.store.specs.Running.{entriesIn, transactionsFrom, rowsIn, Linked, Tabled, ranTo, ranIn}
+use Rattle.store.specs.Running.{transactionsFrom, nextFrom, entriesIn, rowsIn, Linked, Tabled, ranTo, ranIn}
 use Rattle.store.proofs.Runs.{run-append, run-held}
 use Rattle.store.proofs.Orders.{transactionIn, orderFrom, InOrder, next-says, order-turn, order-end, order-start}
 use Rattle.store.proofs.Tabling.{none-tabled, rows-ran, went, stopped}

@@ -3,6 +3,7 @@
 use mathlib.Core.Path.{_≡_, refl, sym, ap, _∙_}
 use mathlib.Core.Bool.{Bool, true, false, cond}
 use mathlib.Core.List.{List, []}
+use mathlib.Core.Option.{none}
 use Prim.Native.Nat.{ℕ, _/_, _^_, _<_, _≤_}
 use native.Mathlib.Omega.{arith}
 use lib.Dec.{leb}
@@ -13,6 +14,7 @@ use Rattle.directory.specs.Lent.{fitsOf}
 use Rattle.directory.specs.Record as Directory
 use Rattle.directory.specs.declared.lent.Lent.the-variants as Lends
 use Rattle.records.specs.Dense.{dense}
+use Rattle.records.specs.Sorted.{recordOf}
 use Rattle.records.proofs.Dense.{All, dense-length}
 use Rattle.lists.specs.Entries.{entryRecordBytes}
 use Rattle.lists.specs.Transactions.{transactionBytes, transactionsOf}
@@ -30,15 +32,16 @@ use Rattle.recovery.specs.declared.Recovery.the-variants as Recovers
 use Rattle.recovery.proofs.Accepts.{Accepted, recover-accepted, sound-fits}
 use Rattle.recovery.proofs.EntriesIn.{log-in}
 use Rattle.table.specs.Row.{Row}
-use Rattle.table.specs.Table.{Result, too-long, full, rows, tableOf}
+use Rattle.table.specs.Table.{Result, too-long, full, rows, lookup, tableOf}
 use Rattle.table.specs.declared.Set.{Set}
 use Rattle.table.specs.declared.Set.the-variants as Sets
 use Rattle.table.proofs.Tables.{Held, none-held}
 use Rattle.store.specs.Order.{replayed}
 use Rattle.store.specs.Change.{runOf}
+use Rattle.store.specs.Left.{leftOf}
 use Rattle.store.specs.Replay.{Replaying, ranAs, replayAs, replayBy, replayOf}
 use Rattle.store.specs.Running.{ran, ranTo, ranIn, listedIn, Listing, RanIs, concludedAs}
-use Rattle.store.proofs.Runs.{run-held}
+use Rattle.store.proofs.Runs.{run-held, run-left}
 
 -- ---- the lists of an accepted recovery
 
@@ -140,7 +143,12 @@ pub record Replayed (area directory : List ℕ) (used : ℕ) (entries transactio
   pub new : List Row
   pub ran : runOf (length table / 320) area (replayed (readLog area (Directory.recordsOf used directory) .entries)) [] ≡ rows new
   pub held : Held (length table) new
+  pub left : (key : List ℕ) → lookup key new ≡ leftOf key area (replayed (readLog area (Directory.recordsOf used directory) .entries)) none
   pub is : replayOf area directory used entries transactions table ≡ acceptedAs (readLog area (Directory.recordsOf used directory)) (length entries) (length transactions) (length table) new
+
+lookup-none : (key : List ℕ) → lookup key [] ≡ none
+unfolding lookup recordOf
+lookup-none key = refl
 
 module _ (area directory : List ℕ) (used : ℕ) (entries transactions table : List ℕ) (values : Recovered) where
   abbrev r : Recovering
@@ -166,6 +174,7 @@ module _ (area directory : List ℕ) (used : ℕ) (entries transactions table : 
         new = new;
         ran = p;
         held = run-held (length table) area _ [] new (none-held (length table)) p;
+        left = λ key. run-left (length table) key area _ [] new (none-held (length table)) p ∙ ap (leftOf key area _) (lookup-none key);
         is = replay-is f a new p;
       }
 

@@ -81,13 +81,13 @@ module _ (key : List ℕ) (rs : List Row) (sorted : Sorted rs) where
   apart : (k : List ℕ) → sameBytes k key ≡ false → key ≡ k → ⊥
   apart k q e = let z = rw (← e, same-self key) at q in let y : _≡_ {A = ℕ} 0 1 = cc in omega arith
 
-  set-left : (k value : List ℕ) → lookup key (set (rowOf k value) rs) ≡ cond (sameBytes k key) (some value) (lookup key rs)
+  pub set-left : (k value : List ℕ) → lookup key (set (rowOf k value) rs) ≡ cond (sameBytes k key) (some value) (lookup key rs)
   set-left k value =
       caseB (sameBytes k key)
       (λ q. rw (q, ← same-true k key q) (lookup-set (rowOf k value) rs))
       (λ q. rw q (lookup-set-other (rowOf k value) key (apart k q) rs))
 
-  remove-left : (k : List ℕ) → lookup key (removeKey k rs) ≡ cond (sameBytes k key) none (lookup key rs)
+  pub remove-left : (k : List ℕ) → lookup key (removeKey k rs) ≡ cond (sameBytes k key) none (lookup key rs)
   remove-left k =
       caseB (sameBytes k key)
       (λ q. rw (q, ← same-true k key q) (lookup-remove k rs sorted))

@@ -1,5 +1,5 @@
 -- Worked examples, by computation. A log here is a list of numbers and contents; the area holds their payloads one behind
--- the other, without headers, since replay reads no header.
+-- the other, without headers, since a run reads no header.
 -- Assumes nothing.
 use mathlib.Core.Path.{_≡_, refl}
 use mathlib.Core.List.{List, [], _∷_, _++_}
@@ -44,7 +44,7 @@ listFrom place (w ∷ ws) =
     record { «tx_id» = w .number; place = place; len = length (payload w); kind = kindNumber (w .content) }
     ∷ listFrom (place + length (payload w)) ws
 
--- a replay into a table of so many records
+-- a run of the committed transactions, in a table of so many records
 ran : (records : ℕ) → List Written → Result
 ran records ws = runOf records (areaOf ws) (replayed (listFrom 0 ws)) []
 

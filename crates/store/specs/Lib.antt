@@ -5,3 +5,4 @@ pub mod Apply
 pub mod Replay
 pub mod Running
 pub mod Examples
+pub mod Whole

@@ -1,26 +1,20 @@
 -- Document 01: "applies committed transactions by ascending number (the Rust's order is a hash set's), each one's entries in
 -- log order". This is the one place that says the order; whoever speaks of it names it.
 -- Assumes nothing.
-use Prim.Native.Nat.{ℕ, suc}
+use Prim.Native.Nat.{ℕ}
 use mathlib.Core.List.{List, [], _∷_, _++_}
+use Rattle.lists.specs.Markers.{ifCommitted}
 use Rattle.lists.specs.Transactions.{transactionsOf}
 use Rattle.lists.specs.declared.entries.EntryRecord.{EntryRecord}
-use Rattle.lists.specs.declared.transactions.RecoveryAction.{RecoveryAction}
-use Rattle.lists.specs.declared.transactions.RecoveryAction.the-variants.{Incomplete, Commit, Rollback}
 use Rattle.lists.specs.declared.transactions.TransactionRecord.{TransactionRecord}
 use Rattle.chains.specs.Chain.{entriesOf}
-
-abbrev pub ifCommitted : {A : Type 0} → RecoveryAction → A → A → A
-ifCommitted Commit a b = a
-ifCommitted Rollback a b = b
-ifCommitted Incomplete a b = b
 
 -- the numbers of the committed transactions, in the order of the records
 unfoldable pub committedOf : List TransactionRecord → List ℕ
 committedOf [] = []
 committedOf (t ∷ ts) = ifCommitted (t .action) (t .«tx_id» ∷ committedOf ts) (committedOf ts)
 
--- the transactions in replay's order, by their numbers
+-- the transactions in replay's order, "by ascending number": their records ascend (`order-ascends`)
 unfoldable pub replayOrder : List EntryRecord → List ℕ
 replayOrder es = committedOf (transactionsOf es)
 
@@ -32,8 +26,3 @@ entriesInTurn (n ∷ ns) es = entriesOf n es ++ entriesInTurn ns es
 -- the entries in replay's order
 unfoldable pub replayed : List EntryRecord → List EntryRecord
 replayed es = entriesInTurn (replayOrder es) es
-
--- of records that stand from place k on, the place of the next one in replay's order; where there is none, the place behind them
-unfoldable pub nextFrom : (k : ℕ) → List TransactionRecord → ℕ
-nextFrom k [] = k
-nextFrom k (t ∷ ts) = ifCommitted (t .action) k (nextFrom (suc k) ts)

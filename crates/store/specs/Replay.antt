@@ -29,7 +29,7 @@ abbrev pub replaying : Recovery → (entries transactions table : List ℕ) → 
 replaying r entries transactions table =
     record { answer = recoveryAs r; entries = entries; transactions = transactions; table = table }
 
--- "6 to 9 leave entry list, transactions and table, where lent, zero throughout. A refused answer's counts are all 0."
+-- 8 and 9: "6 to 9 leave entry list, transactions and table, where lent, zero throughout. A refused answer's counts are all 0."
 abbrev pub refusedEmpty : Refusal → (entries transactions table : ℕ) → Replaying
 refusedEmpty refusal entries transactions table =
     record {

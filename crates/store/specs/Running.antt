@@ -2,13 +2,14 @@
 -- off the bytes; a list comes without its unused records.
 -- Assumes nothing.
 use mathlib.Core.Path.{_≡_}
-use mathlib.Core.List.{List, []}
-use Prim.Native.Nat.{ℕ, _-_, _*_, _/_, _^_, _<_, _≤_}
+use mathlib.Core.List.{List, [], _∷_}
+use Prim.Native.Nat.{ℕ, suc, _-_, _*_, _/_, _^_, _<_, _≤_}
 use lib.ListN.{length, drop}
 use Rattle.refusal.specs.declared.Refusal.the-variants.{ExceedsTableRecord, TableFull}
 use Rattle.records.specs.Dense.{dense, recordsOf}
 use Rattle.records.proofs.Dense.{All}
 use Rattle.lists.specs.Entries.{entryRecordAt, entryRecordBytes}
+use Rattle.lists.specs.Markers.{ifCommitted}
 use Rattle.lists.specs.Transactions.{transactionAt, transactionBytes, transactionsOf}
 use Rattle.lists.specs.declared.entries.EntryRecord.{EntryRecord}
 use Rattle.lists.specs.declared.transactions.TransactionRecord.{TransactionRecord}
@@ -29,6 +30,11 @@ use Rattle.store.specs.Replay.{Replaying, replaying, refusedEmpty}
 -- the transactions from place k on
 abbrev pub transactionsFrom : (k : ℕ) → List ℕ → List TransactionRecord
 transactionsFrom k transactions = recordsOf 24 transactionAt (length transactions / 24 - k) (drop (24 * k) transactions)
+
+-- of transactions from place k on, the place of the next one in replay's order; where there is none, the place behind them
+unfoldable pub nextFrom : (k : ℕ) → List TransactionRecord → ℕ
+nextFrom k [] = k
+nextFrom k (t ∷ ts) = ifCommitted (t .action) k (nextFrom (suc k) ts)
 
 abbrev pub entriesIn : List ℕ → List EntryRecord
 entriesIn entries = recordsOf 32 entryRecordAt (length entries / 32) entries

@@ -15,11 +15,11 @@ ghost use Rattle.store.specs.Running.{Listing, RanIs, concludedAs};
 mod apply;
 mod transactions;
 
-// Zero throughout, and not only where records stand.
-fn clear(buffer: &mut [u8])
-    ensures { λ _. ⌜ now (buffer .exit) ≡ replicate (length (now (buffer .entry))) 0 ⌝ }
+// Replay empties the table, whatever it held.
+fn empty(held: &mut [u8])
+    ensures { λ _. ⌜ now (held .exit) ≡ replicate (length (now (held .entry))) 0 ⌝ }
 {
-    fields::bytes::zero(buffer, 0, buffer.len());
+    fields::bytes::clear(held);
 }
 
 // What a refused recovery makes of the table: 1 and 2 change nothing, 6 and 7 leave it zero as they leave the lists.
@@ -27,7 +27,7 @@ fn leave_table(refusal: Refusal, table: &mut [u8])
     ensures { λ _. ⌜ now (table .exit) ≡ tableAfter (numberOf refusal) (now (table .entry)) ⌝ }
 {
     if 2 < refusal.number() {
-        clear(table);
+        fields::bytes::clear(table);
     }
 }
 
@@ -44,7 +44,7 @@ fn replay(
     requires { ⌜ Listing (now area) (now entries) n (now transactions) m ⌝ }
     ensures { λ r. ⌜ RanIs (now (area .entry)) (now (entries .entry)) n (now (transactions .entry)) (length (now (table .entry))) r (now (entries .exit)) (now (transactions .exit)) (now (table .exit)) ⌝ }
 {
-    clear(table);
+    empty(table);
     chains::chain::link(entries, n, transactions, m);
     let listed = EntryRecord::SIZE * n;
     let begun = TransactionRecord::SIZE * m;
@@ -67,9 +67,9 @@ fn refused_empty(
 ) -> Recovery
     ensures { λ r. ⌜ replaying r (now (entries .exit)) (now (transactions .exit)) (now (table .exit)) ≡ refusedEmpty refusal (length (now (entries .entry))) (length (now (transactions .entry))) (length (now (table .entry))) ⌝ }
 {
-    clear(entries);
-    clear(transactions);
-    clear(table);
+    fields::bytes::clear(entries);
+    fields::bytes::clear(transactions);
+    fields::bytes::clear(table);
     Recovery::Refused(refusal)
 }
 

@@ -7,11 +7,12 @@ ghost use mathlib.Core.Bool.{true, false};
 ghost use mathlib.Core.List.{[]};
 ghost use Prim.Native.Nat.{_*_, _/_, _<_};
 ghost use lib.ListN.{length, drop, replicate};
+ghost use Rattle.lists.specs.Markers.{ifCommitted};
 ghost use Rattle.lists.specs.Transactions.{transactionAt};
 ghost use Rattle.chains.specs.Chain.{entriesOf};
-ghost use Rattle.store.specs.Order.{ifCommitted, nextFrom, replayed};
+ghost use Rattle.store.specs.Order.{replayed};
 ghost use Rattle.store.specs.Change.{runOf};
-ghost use Rattle.store.specs.Running.{entriesIn, transactionsFrom, rowsIn, Linked, Tabled, ranTo, ranIn};
+ghost use Rattle.store.specs.Running.{transactionsFrom, nextFrom, entriesIn, rowsIn, Linked, Tabled, ranTo, ranIn};
 
 fn is_commit(transaction: TransactionRecord) -> bool
     ensures { λ r. ⌜ r ≡ ifCommitted (transaction .action) true false ⌝ }

@@ -12,7 +12,7 @@ use Rattle.records.specs.Sorted.{recordOf, put, remove}
 use Rattle.records.specs.Halving.{foundIn, halved, halve}
 use Rattle.records.specs.declared.Found.the-variants.{At, Gap}
 use Rattle.table.specs.Row.{Row, rowOf, fits, padded, markedBytes, rowBytes, emptyBytes, rowRecordAt, rowAt}
-use Rattle.table.specs.Table.{set, removeKey, lookup, setIn, too-long, full, rows, tableOf}
+use Rattle.table.specs.Table.{set, removeKey, lookup, setIn, too-long, full, rows, tableOf, liveRows}
 use Rattle.table.specs.Change.{orderIn, foundOf, changed, insertOf, setOf, removeOf}
 use Rattle.table.specs.declared.Set.the-variants.{Full, Rows}
 
@@ -90,6 +90,11 @@ unfolding setIn fits
 eight-before-nine = refl
 
 -- ---- bytes
+
+-- a record whose mark is 0 is no row
+live-ones : liveRows 3 (rowBytes a ++ (emptyBytes ++ rowBytes b)) ≡ a ∷ b ∷ []
+unfolding liveRows rowAt rowRecordAt markedBytes padded emptyBytes leBytes leOf
+live-ones = refl
 
 first-set : setOf (replicate 640 0) 0 b ≡ changed (Rows 1) (tableOf 640 (b ∷ []))
 unfolding setOf insertOf foundOf foundIn halved halve fits dense bytesOf markedBytes padded leBytes

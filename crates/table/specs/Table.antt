@@ -1,15 +1,15 @@
 -- What a table means: rows sorted "by key bytes, a proper prefix first", with set, remove and lookup.
 -- Assumes nothing.
-use Prim.Native.Nat.{ℕ}
+use Prim.Native.Nat.{ℕ, zero, suc}
 use mathlib.Core.Bool.{cond}
-use mathlib.Core.List.{List}
+use mathlib.Core.List.{List, [], _∷_}
 use mathlib.Core.Option.{Option, none, some}
-use lib.Dec.{leb}
-use lib.ListN.{length}
+use lib.Dec.{leb, eqb}
+use lib.ListN.{length, drop}
 use Rattle.fields.specs.Order.{compareBytes}
 use Rattle.records.specs.Dense.{dense}
 use Rattle.records.specs.Sorted.{recordOf, put, remove, Ascends}
-use Rattle.table.specs.Row.{Row, keyOf, fits, rowBytes}
+use Rattle.table.specs.Row.{Row, keyOf, fits, rowBytes, rowRecordAt, rowAt}
 
 abbrev pub Sorted : List Row → Type 0
 Sorted rows = Ascends compareBytes keyOf rows
@@ -41,3 +41,8 @@ setIn records row rs = cond (fits row) (cond (leb (length (set row rs)) records)
 -- a table of so many bytes that holds the rows
 abbrev pub tableOf : (room : ℕ) → List Row → List ℕ
 tableOf room rs = dense rowBytes room rs
+
+-- the rows of n records: those that are live. "Table mark: 1 live, 0 empty."
+unfoldable pub liveRows : (n : ℕ) → (table : List ℕ) → List Row
+liveRows zero s = []
+liveRows (suc n) s = cond (eqb (rowRecordAt s .mark) 1) (rowAt s ∷ liveRows n (drop 320 s)) (liveRows n (drop 320 s))

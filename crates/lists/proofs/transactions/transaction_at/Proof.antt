@@ -3,7 +3,7 @@
 use Prim.Native.Nat.{_+_, _*_}
 use native.Mathlib.Omega.{arith}
 use Rattle.fields.proofs.Numbers.{num-below}
-use Rattle.lists.proofs.TransactionRecords.{transaction-is, transaction-past}
+use Rattle.lists.proofs.TransactionRecords.{transaction-read, transaction-past}
 use borrow.Author.Needs.{needs}
 use Rattle.lists.proofs.transactions.transaction_at.Statement.{statement}
 use Rattle.lists.proofs.transactions.transaction_at.Tie as tie
@@ -43,7 +43,7 @@ get-u64-requires-2 c κs = search needs
 returns-2 : tie.Need-returns-2
 returns-2 c =
     let a = c .before .before .before .before .before .before .args in
-    cc (transaction-is (a .transactions .now) (24 * a .k))
+    cc (transaction-read (a .transactions .now) (24 * a .k))
 
 pub transaction-at-spec : {M : Type 1} → statement M
 transaction-at-spec =

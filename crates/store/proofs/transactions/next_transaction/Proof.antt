@@ -4,8 +4,7 @@ use mathlib.Core.Path.{_≡_, refl, sym, _∙_}
 use Prim.Native.Nat.{_-_, _/_}
 use native.Mathlib.Omega.{arith}
 use lib.ListN.{length}
-use Rattle.store.specs.Order.{nextFrom}
-use Rattle.store.specs.Running.{transactionsFrom}
+use Rattle.store.specs.Running.{transactionsFrom, nextFrom}
 use Rattle.store.proofs.Orders.{next-stops, next-passes, next-none}
 use borrow.Author.Needs.{needs}
 use Rattle.store.proofs.transactions.next_transaction.Statement.{statement}
