@@ -1,0 +1,15 @@
+pub mod Laid
+pub mod Images
+pub mod Laying
+pub mod Writes
+pub mod Payloads
+pub mod Lefts
+pub mod CutSegments
+pub mod Holdings
+pub mod Cuts
+pub mod Settles
+pub mod Touches
+pub mod Gives
+pub mod Crash
+pub mod Uncut
+pub mod Operator

@@ -1,0 +1,9 @@
+pub mod Write
+pub mod Kept
+pub mod Settings
+pub mod Touch
+pub mod Cut
+pub mod Crash
+pub mod Operator
+pub mod KeyExamples
+pub mod Example

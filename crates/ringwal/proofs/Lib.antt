@@ -1,0 +1,3 @@
+pub mod Walks
+pub mod Views
+pub mod Determined

@@ -1,0 +1,3 @@
+pub mod Walker
+pub mod Readings
+pub mod Examples
