@@ -1,0 +1,7 @@
+pub mod Writing
+pub mod Recovering
+pub mod Checkpoints
+pub mod Naming
+pub mod HouseRecords
+pub mod Decoding
+pub mod Examples
