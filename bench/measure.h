@@ -1,0 +1,9 @@
+/* How long a call takes. */
+#ifndef MEASURE_H
+#define MEASURE_H
+
+/* The processor time of one call in seconds: the median of several samples, after one that warms. A short call is made many
+ * times for a sample. Processor time doesn't count the time in which others have the processor. */
+double measure(void (*call)(void *), void *context);
+
+#endif
