@@ -11,6 +11,8 @@
 /* A sample takes at least so many seconds. */
 #define SAMPLE 0.02
 
+static int is_once;
+
 static double processor_seconds(void)
 {
     struct timespec now;
@@ -46,15 +48,33 @@ static int compare(const void *a, const void *b)
     return (x > y) - (x < y);
 }
 
+double median(double *samples, size_t n)
+{
+    qsort(samples, n, sizeof *samples, compare);
+    return samples[n / 2];
+}
+
+void measure_once(void)
+{
+    is_once = 1;
+}
+
+/* How many samples there are of a call whose first one is this. */
+static size_t samples_of(double first)
+{
+    if (is_once)
+        return 1;
+    return first < LONG ? SAMPLES : SAMPLES_OF_LONG;
+}
+
 double measure(void (*call)(void *), void *context)
 {
     double samples[SAMPLES];
     unsigned times = times_for(call, context);
-    unsigned n = 0;
+    size_t n = 0;
 
     do {
         samples[n++] = sample(call, context, times);
-    } while (n < (samples[0] < LONG ? SAMPLES : SAMPLES_OF_LONG));
-    qsort(samples, n, sizeof *samples, compare);
-    return samples[n / 2];
+    } while (n < samples_of(samples[0]));
+    return median(samples, n);
 }

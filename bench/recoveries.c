@@ -115,7 +115,7 @@ static void print_at_most(const char *folder, enum call call, const char *name, 
     print_times(text, measure_lent(plan_named(name), folder, call, AT_THEIR_MOST));
 }
 
-static void logs(const char *folder)
+void recoveries_in_short(const char *folder)
 {
     print_title("recovery", COLUMNS);
     print_log(folder, RECOVERY, "small", "small: 640 entries, 43 KB");
@@ -184,7 +184,7 @@ static void worst_cases(const char *folder)
 
 void recoveries(const char *folder)
 {
-    logs(folder);
+    recoveries_in_short(folder);
     growths(folder);
     worst_cases(folder);
 }

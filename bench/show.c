@@ -2,6 +2,13 @@
 
 #include <stdio.h>
 
+static int is_bare;
+
+void print_bare(void)
+{
+    is_bare = 1;
+}
+
 const char *shown_time(double seconds)
 {
     static char texts[4][16];
@@ -29,6 +36,10 @@ void print_rust(struct times times)
 
 void print_times(const char *text, struct times times)
 {
+    if (is_bare) {
+        printf("%s\t%e\n", text, times.ours);
+        return;
+    }
     printf("%-34s %11s", text, shown_time(times.ours));
     print_rust(times);
     fflush(stdout);
@@ -36,6 +47,10 @@ void print_times(const char *text, struct times times)
 
 void print_title(const char *title, const char *columns)
 {
+    if (is_bare) {
+        puts(title);
+        return;
+    }
     printf("\n%-34s %s\n", title, columns);
     fflush(stdout);
 }

@@ -19,6 +19,9 @@ void print_times(const char *text, struct times times);
 /* The Rust's time and the ratio alone, to end a line. */
 void print_rust(struct times times);
 
+/* From now on bare lines for another program, as ratios.h has them. */
+void print_bare(void);
+
 /* A time with its unit. The text is good until this was called four times more. */
 const char *shown_time(double seconds);
 

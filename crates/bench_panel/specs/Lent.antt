@@ -5,22 +5,20 @@ use Prim.Native.Nat.{ℕ, _≤_}
 use lib.ListN.{length}
 use Rattle.bench_panel.specs.declared.panel.Lent.{Lent}
 
--- the sizes of the buffers as a whole
-abbrev pub sizesOf : List ℕ → List ℕ → List ℕ → List ℕ → List ℕ → Lent
-sizesOf area directory entries transactions table =
-    record {
-      area = length area;
-      directory = length directory;
-      entries = length entries;
-      transactions = length transactions;
-      table = length table;
-    }
+-- no more is lent of a buffer than it has
+abbrev pub Within : Lent → Type 0
+Within lent =
+    (lent .area ≤ 1048576)
+    × (lent .directory ≤ 98304)
+    × (lent .entries ≤ 524288)
+    × (lent .transactions ≤ 98304)
+    × (lent .table ≤ 327680)
 
--- "none may exceed what there is"
-abbrev pub Within : Lent → Lent → Type 0
-Within lent whole =
-    (lent .area ≤ whole .area)
-    × (lent .directory ≤ whole .directory)
-    × (lent .entries ≤ whole .entries)
-    × (lent .transactions ≤ whole .transactions)
-    × (lent .table ≤ whole .table)
+-- the same of buffers
+abbrev pub Lends : Lent → List ℕ → List ℕ → List ℕ → List ℕ → List ℕ → Type 0
+Lends lent area directory entries transactions table =
+    (lent .area ≤ length area)
+    × (lent .directory ≤ length directory)
+    × (lent .entries ≤ length entries)
+    × (lent .transactions ≤ length transactions)
+    × (lent .table ≤ length table)

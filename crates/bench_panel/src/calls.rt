@@ -1,142 +1,119 @@
-// The lines that make a call of the writer. What they are handed are the lent parts.
-use crate::hex;
-use crate::panel::Done;
+// The lines that make a call of the writer or truncate. What they are handed are the lent parts.
+use crate::line;
+use crate::line::Line;
 use crate::panel::Log;
-use crate::words;
-use crate::words::Number;
+use crate::printing;
 use segment::Appended;
 use segment::Appending;
 use segment::Opened;
 use segment::Opening;
+use truncation::Truncated;
 
-fn print_size(name: &[u8], size: usize) {
-    console::print_line(name, &[size as u64]);
+// The name under which an opening or a rotation is answered.
+fn print_opened(row: u64, used: usize) {
+    if row == line::OPEN {
+        printing::print_size(b"opened", used);
+        return;
+    }
+    printing::print_size(b"rotated", used);
 }
 
-// The answer of an opening or a rotation, under its name.
-fn opened(log: Log, name: &[u8], opening: Opening) -> Done {
+fn opened(log: Log, row: u64, opening: Opening) -> Log {
     let manager = opening.manager;
     let answer = opening.answer;
     match answer {
         Opened::Used(used) => {
-            print_size(name, used);
-            Log { manager, used }.done()
+            print_opened(row, used);
+            Log { manager, used }
         }
         Opened::Refused(refusal) => {
             console::print_refused(refusal);
             let used = log.used;
-            Log { manager, used }.done()
+            Log { manager, used }
         }
     }
 }
 
-fn appended(log: Log, appending: Appending) -> Done {
+fn appended(log: Log, appending: Appending) -> Log {
     let manager = appending.manager;
     let answer = appending.answer;
     match answer {
         Appended::Written { used, len } => {
-            print_size(b"appended", len);
-            Log { manager, used }.done()
+            printing::print_size(b"appended", len);
+            Log { manager, used }
         }
         Appended::Refused(refusal) => {
             console::print_refused(refusal);
             let used = log.used;
-            Log { manager, used }.done()
+            Log { manager, used }
         }
     }
 }
 
-// `raw LSN BYTES`
-fn raw(log: Log, area: &mut [u8], directory: &mut [u8], text: &[u8]) -> Done {
-    let Number::Value(lsn) = words::number_at(text, 1) else {
-        return log.bad();
-    };
-    let mut data = io::buffer();
-    let bytes = hex::read(words::word(text, 2), &mut data);
-    if bytes.is_bad {
-        return log.bad();
+fn truncated(log: Log, answer: Truncated) -> Log {
+    match answer {
+        Truncated::Dropped { count, used } => {
+            printing::print_size(b"truncated", count);
+            let manager = log.manager;
+            Log { manager, used }
+        }
+        Truncated::Refused(refusal) => {
+            console::print_refused(refusal);
+            log
+        }
     }
-    let n = bytes.count;
-    appended(
-        log,
-        log.manager
-            .append_entry(area, directory, log.used, lsn, &data[..n]),
+}
+
+// `open`, `rotate`
+fn open(log: Log, area: &mut [u8], directory: &mut [u8], row: u64) -> Opening {
+    if row == line::OPEN {
+        return log.manager.open(area, directory, log.used);
+    }
+    log.manager.rotate(area, directory, log.used)
+}
+
+// `raw LSN BYTES`, `entry LSN KIND TX TIME KEY OLD NEW`
+fn append(log: Log, area: &mut [u8], directory: &mut [u8], line: Line, bytes: &[u8]) -> Appending {
+    let lsn = line.values[0];
+    if line.row == line::RAW {
+        let data = line::bytes_at(line, 1, bytes);
+        return log.manager
+            .append_entry(area, directory, log.used, lsn, data);
+    }
+    let key = line::bytes_at(line, 4, bytes);
+    let old = line::bytes_at(line, 5, bytes);
+    let new = line::bytes_at(line, 6, bytes);
+    log.manager.append(
+        area,
+        directory,
+        log.used,
+        lsn,
+        line.values[1],
+        line.values[2],
+        line.values[3],
+        key,
+        old,
+        new,
     )
 }
 
-// The entry call with the numbers of a line, and with its KEY, OLD and NEW.
-fn append(
+pub(crate) fn answer(
     log: Log,
     area: &mut [u8],
     directory: &mut [u8],
-    lsn: u64,
-    kind: u64,
-    tx: u64,
-    time: u64,
-    text: &[u8],
-) -> Done {
-    let mut key = io::buffer();
-    let mut old = io::buffer();
-    let mut new = io::buffer();
-    let key_bytes = hex::read(words::word(text, 5), &mut key);
-    let old_bytes = hex::read(words::word(text, 6), &mut old);
-    let new_bytes = hex::read(words::word(text, 7), &mut new);
-    if key_bytes.is_bad || old_bytes.is_bad || new_bytes.is_bad {
-        return log.bad();
+    line: Line,
+    bytes: &[u8],
+) -> Log {
+    let row = line.row;
+    if row < line::RAW {
+        return opened(log, row, open(log, area, directory, row));
     }
-    let k = key_bytes.count;
-    let o = old_bytes.count;
-    let n = new_bytes.count;
-    appended(
+    if row < line::TRUNCATE {
+        return appended(log, append(log, area, directory, line, bytes));
+    }
+    let checkpoint = line.values[0];
+    truncated(
         log,
-        log.manager.append(
-            area,
-            directory,
-            log.used,
-            lsn,
-            kind,
-            tx,
-            time,
-            &key[..k],
-            &old[..o],
-            &new[..n],
-        ),
+        truncation::truncate_segments_before(area, directory, log.used, checkpoint),
     )
-}
-
-// `entry LSN KIND TX TIME KEY OLD NEW`
-fn entry(log: Log, area: &mut [u8], directory: &mut [u8], text: &[u8]) -> Done {
-    let Number::Value(lsn) = words::number_at(text, 1) else {
-        return log.bad();
-    };
-    let Number::Value(kind) = words::number_at(text, 2) else {
-        return log.bad();
-    };
-    let Number::Value(tx) = words::number_at(text, 3) else {
-        return log.bad();
-    };
-    let Number::Value(time) = words::number_at(text, 4) else {
-        return log.bad();
-    };
-    append(log, area, directory, lsn, kind, tx, time, text)
-}
-
-pub fn line(log: Log, area: &mut [u8], directory: &mut [u8], text: &[u8]) -> Done {
-    if words::is(text, b"open", 0) {
-        return opened(log, b"opened", log.manager.open(area, directory, log.used));
-    }
-    if words::is(text, b"rotate", 0) {
-        return opened(
-            log,
-            b"rotated",
-            log.manager.rotate(area, directory, log.used),
-        );
-    }
-    if words::is(text, b"raw", 2) {
-        return raw(log, area, directory, text);
-    }
-    if words::is(text, b"entry", 7) {
-        return entry(log, area, directory, text);
-    }
-    log.bad()
 }

@@ -1,9 +1,12 @@
 // Bytes as lowercase hex digits, or `-` for none.
-use crate::words::Bytes;
+use crate::words::Number;
 use libc::STDOUT_FILENO;
-ghost use Prim.Native.Nat.{_+_, _*_, _<_, _≤_};
+ghost use Prim.Native.Nat.{_+_, _-_, _*_, _<_, _≤_};
 ghost use lib.ListN.{length};
 ghost use Rattle.io.specs.Counts.{Counts};
+
+// A word has at most so many bytes.
+pub(crate) const MOST: usize = 4_096;
 
 // A digit's value, or 16 for any other byte.
 fn digit(byte: u8) -> u8 {
@@ -14,56 +17,61 @@ fn digit(byte: u8) -> u8 {
     }
 }
 
-fn read_digits(text: &[u8], target: &mut [u8], n: usize) -> bool
-    requires { ⌜ (2 * n ≤ length (now text)) × (n ≤ length (now target)) ⌝ }
-    ensures { λ _. ⌜ Counts n (now (target .exit)) ⌝ }
-{
+fn are_digits(text: &[u8]) -> bool {
     let mut i = 0;
-    while i < n {
-        let high = digit(text[2 * i]);
-        let low = digit(text[2 * i + 1]);
-        if 16 <= high {
+    while i < text.len() {
+        if 16 <= digit(text[i]) {
             return false;
         }
-        if 16 <= low {
-            return false;
-        }
-        target[i] = 16 * high + low;
         i += 1;
     }
     true
 }
 
-// Reads a word's bytes into the target. A word of more bytes than the target has is bad.
-pub fn read(text: &[u8], target: &mut [u8]) -> Bytes
-    ensures { λ r. ⌜ Counts (r .count) (now (target .exit)) ⌝ }
-{
-    let bad = Bytes {
-        count: 0,
-        is_bad: true,
-    };
+// How many bytes a word stands for.
+pub(crate) fn count(text: &[u8]) -> Number {
     if fields::bytes::same(text, b"-") {
-        return Bytes {
-            count: 0,
-            is_bad: false,
-        };
+        return Number::Value(0);
     }
     let n = text.len() / 2;
-    if n == 0 {
-        return bad;
+    if n == 0 || MOST < n {
+        return Number::NoNumber;
     }
     if text.len() % 2 != 0 {
-        return bad;
+        return Number::NoNumber;
     }
-    if target.len() < n {
-        return bad;
+    if are_digits(text) {
+        return Number::Value(n as u64);
     }
-    if !read_digits(text, target, n) {
-        return bad;
+    Number::NoNumber
+}
+
+// The byte of two digits.
+fn byte(high: u8, low: u8) -> u8 {
+    digit(high) % 16 * 16 + digit(low) % 16
+}
+
+// How many bytes of a word have a place in the target from `at` on.
+fn room(text: &[u8], target: &[u8], at: usize) -> usize
+    ensures { λ r. ⌜ (2 * r ≤ length (now (text .entry))) × (r ≤ length (now (target .entry)) - at) ⌝ }
+{
+    if target.len() < at {
+        return 0;
     }
-    Bytes {
-        count: n,
-        is_bad: false,
+    let n = text.len() / 2;
+    if target.len() - at < n {
+        return 0;
+    }
+    n
+}
+
+// Puts a word's bytes into the target, from `at` on, where it has room for them.
+pub(crate) fn read(text: &[u8], target: &mut [u8], at: usize) {
+    let n = room(text, target, at);
+    let mut i = 0;
+    while i < n {
+        target[at + i] = byte(text[2 * i], text[2 * i + 1]);
+        i += 1;
     }
 }
 
@@ -120,7 +128,7 @@ fn print_none() {
     io::write_all(STDOUT_FILENO, b"-");
 }
 
-pub fn print(bytes: &[u8]) {
+pub(crate) fn print(bytes: &[u8]) {
     if bytes.len() == 0 {
         print_none();
     }

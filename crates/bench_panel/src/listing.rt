@@ -1,6 +1,7 @@
 // The lists that recovery leaves and the table that replay leaves: their records, and the checksums of their bytes.
 use crate::hex;
-use crate::shows;
+use crate::printing;
+use crate::words;
 use libc::STDOUT_FILENO;
 use table::row::RowRecord;
 ghost use Prim.Native.Nat.{_+_, _*_, _≤_};
@@ -15,7 +16,7 @@ fn print_entry(entries: &[u8], k: usize) {
 }
 
 // `entry TX PLACE LENGTH KIND` for each entry.
-pub fn print_entries(entries: &[u8], n: usize) {
+pub(crate) fn print_entries(entries: &[u8], n: usize) {
     let mut k = 0;
     while k < n {
         print_entry(entries, k);
@@ -33,7 +34,7 @@ fn print_transaction(transactions: &[u8], k: usize) {
 }
 
 // `transaction TX ACTION COUNT` for each transaction.
-pub fn print_transactions(transactions: &[u8], n: usize) {
+pub(crate) fn print_transactions(transactions: &[u8], n: usize) {
     let mut k = 0;
     while k < n {
         print_transaction(transactions, k);
@@ -41,23 +42,13 @@ pub fn print_transactions(transactions: &[u8], n: usize) {
     }
 }
 
-// The bytes of a key or a value. What a length says beyond the table's end is not there.
-fn part(table: &[u8], at: usize, len: usize) -> &[u8]
-    requires { ⌜ at ≤ length (now table) ⌝ }
-{
-    if table.len() - at < len {
-        return &table[at..];
-    }
-    let end = at + len;
-    &table[at..end]
-}
-
 fn print_set(key: &[u8], value: &[u8]) {
     io::write_all(STDOUT_FILENO, b"set ");
     hex::print(key);
-    shows::print_bytes(b"", value);
+    printing::print_bytes(b"", value);
 }
 
+// What a length says beyond the table's end is not there.
 fn print_row(table: &[u8], k: usize)
     requires { ⌜ 320 * (k + 1) ≤ length (now table) ⌝ }
 {
@@ -65,14 +56,14 @@ fn print_row(table: &[u8], k: usize)
     if row.mark == table::row::LIVE {
         let at = RowRecord::SIZE * k;
         print_set(
-            part(table, at + table::row::KEY, row.key_len),
-            part(table, at + table::row::VALUE, row.value_len),
+            words::part(table, at + table::row::KEY, row.key_len),
+            words::part(table, at + table::row::VALUE, row.value_len),
         );
     }
 }
 
 // `set KEY VALUE` for each live record.
-pub fn print_rows(table: &[u8]) {
+pub(crate) fn print_rows(table: &[u8]) {
     let mut k = 0;
     while k < table.len() / RowRecord::SIZE {
         print_row(table, k);
@@ -86,7 +77,7 @@ fn print_checksum(bytes: &[u8]) {
 }
 
 // `lists E T K`
-pub fn print_checksums(entries: &[u8], transactions: &[u8], table: &[u8]) {
+pub(crate) fn print_checksums(entries: &[u8], transactions: &[u8], table: &[u8]) {
     io::write_all(STDOUT_FILENO, b"lists");
     print_checksum(entries);
     print_checksum(transactions);

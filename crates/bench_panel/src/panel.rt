@@ -1,60 +1,51 @@
 // What the panel keeps from line to line, beside the buffers.
+use crate::buffers;
 use segment::SegmentManager;
+ghost use Rattle.bench_panel.specs.Lent.{Within};
 
 // What the calls are handed and change: the writer's state and the used count.
-pub struct Log {
-    pub manager: SegmentManager,
-    pub used: usize,
+pub(crate) struct Log {
+    pub(crate) manager: SegmentManager,
+    pub(crate) used: usize,
 }
 
 // How many bytes of each buffer are lent, from its first.
-pub struct Lent {
-    pub area: usize,
-    pub directory: usize,
-    pub entries: usize,
-    pub transactions: usize,
-    pub table: usize,
+pub(crate) struct Lent {
+    pub(crate) area: usize,
+    pub(crate) directory: usize,
+    pub(crate) entries: usize,
+    pub(crate) transactions: usize,
+    pub(crate) table: usize,
 }
 
-pub struct Panel {
-    pub log: Log,
-    pub lent: Lent,
-}
-
-// What a line leaves. A bad one leaves what it found.
-pub struct Done {
-    pub log: Log,
-    pub is_bad: bool,
-}
-
-pub struct Turn {
-    pub panel: Panel,
-    pub is_bad: bool,
-}
-
-pub fn print_ok() {
-    console::print_line(b"ok", &[]);
+pub(crate) struct Panel {
+    pub(crate) log: Log,
+    pub(crate) lent: Lent,
 }
 
 impl Log {
-    pub fn new() -> Self {
+    pub(crate) fn new() -> Self {
         Log {
             manager: SegmentManager::with_default_size(),
             used: 0,
         }
     }
+}
 
-    pub fn bad(self) -> Done {
-        Done {
-            log: self,
-            is_bad: true,
-        }
-    }
-
-    pub fn done(self) -> Done {
-        Done {
-            log: self,
-            is_bad: false,
+impl Panel {
+    // The writer is new, and all is lent.
+    pub(crate) fn new() -> Self
+        ensures { λ r. ⌜ Within (r .lent) ⌝ }
+    {
+        Panel {
+            log: Log::new(),
+            lent: Lent {
+                area: buffers::AREA,
+                directory: buffers::DIRECTORY,
+                entries: buffers::ENTRIES,
+                transactions: buffers::TRANSACTIONS,
+                table: buffers::TABLE,
+            },
         }
     }
 }

@@ -1,23 +1,34 @@
-// The words of a line, and numbers. Words are separated by exactly one space.
-ghost use Prim.Native.Nat.{_≤_};
+// The lines of a text, the words of a line, and numbers. Words are separated by exactly one space.
+ghost use Prim.Native.Nat.{_<_, _≤_};
 ghost use lib.ListN.{length};
-ghost use Rattle.io.specs.Counts.{Counts};
 
 const MOST: u64 = 0xffff_ffff_ffff_ffff;
 
-// How many bytes of a buffer a word stands for. A bad one stands for none.
-pub struct Bytes {
-    pub count: usize,
-    pub is_bad: bool,
-}
-
-pub enum Number {
+pub(crate) enum Number {
     NoNumber,
     Value(u64),
 }
 
+// Where a line ends, and where the next one begins.
+pub(crate) struct Span {
+    pub(crate) end: usize,
+    pub(crate) next: usize,
+}
+
+pub(crate) fn line_at(script: &[u8], at: usize) -> Span
+    requires { ⌜ at < length (now script) ⌝ }
+    ensures { λ r. ⌜ (at ≤ r .end) × (r .end ≤ length (now (script .entry))) ⌝ }
+    ensures { λ r. ⌜ (at < r .next) × (r .next ≤ length (now (script .entry))) ⌝ }
+{
+    let cut = console::cut_at(&script[at..], b'\n');
+    Span {
+        end: at + cut.before,
+        next: at + cut.passed,
+    }
+}
+
 // A line has as many operands as spaces.
-fn operands(text: &[u8]) -> usize {
+pub(crate) fn operands(text: &[u8]) -> usize {
     let mut n = 0;
     let mut i = 0;
     while i < text.len() {
@@ -50,18 +61,22 @@ fn start(text: &[u8], k: usize) -> usize
 }
 
 // Word K, counted from 0: the line's name is word 0, and its operands follow. There are no bytes behind the last one.
-pub fn word(text: &[u8], k: usize) -> &[u8] {
+pub(crate) fn word(text: &[u8], k: usize) -> &[u8] {
     let at = start(text, k);
     let end = at + console::cut_at(&text[at..], b' ').before;
     &text[at..end]
 }
 
-// Whether the line has this name, and so many operands.
-pub fn is(text: &[u8], name: &[u8], count: usize) -> bool {
-    if operands(text) != count {
-        return false;
+// The part with this place and length. What lies beyond the end is not there.
+pub(crate) fn part(bytes: &[u8], at: usize, len: usize) -> &[u8] {
+    if bytes.len() < at {
+        return &bytes[..0];
     }
-    fields::bytes::same(word(text, 0), name)
+    if bytes.len() - at < len {
+        return &bytes[at..];
+    }
+    let end = at + len;
+    &bytes[at..end]
 }
 
 fn wide(x: u8) -> u64 {
@@ -84,7 +99,7 @@ fn with_digit(number: u64, byte: u8) -> Number {
 }
 
 // One or more decimal digits, below 2^64.
-fn parse(text: &[u8]) -> Number {
+pub(crate) fn parse(text: &[u8]) -> Number {
     if text.len() == 0 {
         return Number::NoNumber;
     }
@@ -98,30 +113,4 @@ fn parse(text: &[u8]) -> Number {
         i += 1;
     }
     Number::Value(number)
-}
-
-// Word K as a number.
-pub fn number_at(text: &[u8], k: usize) -> Number {
-    parse(word(text, k))
-}
-
-// How many bytes of the buffer word K asks for. A number of more than it has is bad.
-pub fn size_at(text: &[u8], k: usize, buffer: &[u8]) -> Bytes
-    ensures { λ r. ⌜ Counts (r .count) (now (buffer .entry)) ⌝ }
-{
-    let bad = Bytes {
-        count: 0,
-        is_bad: true,
-    };
-    let Number::Value(size) = number_at(text, k) else {
-        return bad;
-    };
-    let count = size as usize;
-    if buffer.len() < count {
-        return bad;
-    }
-    Bytes {
-        count,
-        is_bad: false,
-    }
 }

@@ -3,7 +3,7 @@
 -- Assumes nothing.
 use Prim.Native.Nat.{ℕ, _+_, _-_, _*_, _/_, _<_, _≤_}
 use mathlib.Core.Path.{_≡_, refl, sym, ap, subst, _∙_}
-use mathlib.Core.Bool.{Bool, true, false, false≢true}
+use mathlib.Core.Bool.{Bool, true, false, cond, false≢true}
 use mathlib.Core.List.{List, [], _∷_, _++_, append-assoc, append-nil}
 use mathlib.Core.Logic.{_⊎_, inl, inr, ⊎-elim}
 use mathlib.Core.Option.{Option, none, some}
@@ -17,6 +17,7 @@ use Rattle.header.specs.Header.{entryBytes}
 use Rattle.payload.specs.Content.{Content}
 use Rattle.payload.specs.Encode.{isWellFormed}
 use Rattle.directory.specs.Record.{recordBytes, recordsOf, endOf}
+use Rattle.refusal.specs.declared.Refusal.the-variants.{NoRoom}
 use Rattle.directory.specs.Rule.{endBefore, lastOf, afterRecord, newSegment, testOf}
 use Rattle.directory.specs.declared.record.SegmentRecord.{SegmentRecord}
 use Rattle.directory.specs.declared.rule.Last.the-variants.{NoSegment}
@@ -27,10 +28,11 @@ use Rattle.directory.proofs.Records.{length-records, records-snoc, records-more
 use Rattle.directory.proofs.Rules.{last-snoc}
 use Rattle.directory.proofs.Sound.{sound-says, sound-so}
 use Rattle.segment.specs.Answer.{Answer, refused, counts, written}
-use Rattle.segment.specs.Plan.{lastUsed, lackOf, nextBy, nextOf, segmentAfter, newSegmentOf}
+use Rattle.plan.specs.Plan.{lastUsed, nextOf, segmentAfter, newSegmentOf}
+use Rattle.plan.specs.declared.NewSegment.the-variants as New
 use Rattle.segment.specs.Writing.{fresh, openAs, openOf, Log, appendEntryOf, appendOf}
 use Rattle.segment.specs.declared.SegmentManager.{SegmentManager}
-use Rattle.segment.proofs.Plans.{IsBehind, last-is, plan-says}
+use Rattle.plan.proofs.Plans.{IsBehind, last-is, plan-says}
 use Rattle.segment.proofs.Logs.{Accepts, entry-length, entry-is-raw, accepted, append-accepted}
 use Rattle.crash.specs.Write.{Request, askedBy, payloadAs, encoded, Held, heldOpened, heldAppended, openWith, appendTo, Written, lastWritten, WrittenLog, withFirst, ifAccepted, appendAll, ifOpened, writeLog, Typed}
 use Rattle.crash.proofs.Laid.{imageOf, together, recordsFrom, writtenFrom, Laid}
@@ -76,7 +78,7 @@ opening-laid : (bound : ℕ) (area directory : List ℕ) (h : Held) → openWith
 unfolding openWith openOf newSegmentOf nextOf newSegment lastOf recordsOf imageOf together recordsFrom writtenFrom
 opening-laid bound area directory h e = told (testOf (length area) directory 0) refl (leb (length directory / 24) 0) refl e
   where
-    told : (t : Tested) → testOf (length area) directory 0 ≡ t → (full : Bool) → leb (length directory / 24) 0 ≡ full → (let o = openAs (segmentAfter t (nextBy (lackOf false full) NoSegment)) (fresh bound) directory 0 in heldOpened (o .answer) o area) ≡ some h → Laid (logOf [] h) ([] ∷ [])
+    told : (t : Tested) → testOf (length area) directory 0 ≡ t → (full : Bool) → leb (length directory / 24) 0 ≡ full → (let o = openAs (segmentAfter t (cond full (New.Refused NoRoom) (New.Record (newSegment NoSegment)))) (fresh bound) directory 0 in heldOpened (o .answer) o area) ≡ some h → Laid (logOf [] h) ([] ∷ [])
     told (Test.Refused x) f full g e = let z : _≡_ {A = ℕ} 0 1 = cc in absurd (omega arith)
     told Sound f true g e = let z : _≡_ {A = ℕ} 0 1 = cc in absurd (omega arith)
     told Sound f false g e =

@@ -22,7 +22,7 @@ use Rattle.directory.specs.Rule.{liesOf, followsOf, ruleFrom, directoryRule, te
 use Rattle.records.specs.Sorted.{compareNumbers, put}
 use Rattle.fields.specs.Order.{compareBytes}
 use Rattle.lists.specs.Transactions.{noted, begun, note, noteAll, transactionsOf}
-use Rattle.segment.specs.Plan.{nextOf, newSegmentOf, appendTestOf, behindOf, planOf}
+use Rattle.plan.specs.Plan.{nextOf, newSegmentOf, appendTestOf, behindOf, planOf}
 use Rattle.segment.specs.Writing.{openOf, counted, writtenOf, contentOf, appendOf}
 use Rattle.crash.specs.Write.{Request, encoded, WrittenLog, openWith, appendTo, appendAll, writeLog, Typed}
 use Rattle.crash.specs.Kept.{keptBy, isInside, listedAs}

@@ -10,7 +10,7 @@ use Rattle.payload.specs.Content.{Content, payloadOf}
 use Rattle.payload.specs.Encode.{asked}
 use Rattle.directory.specs.Record.{endOf}
 use Rattle.segment.specs.Answer.{Answer, refused, counts, written}
-use Rattle.segment.specs.Plan.{lastUsed}
+use Rattle.plan.specs.Plan.{lastUsed}
 use Rattle.segment.specs.Writing.{fresh, OpenedLog, openOf, Log, appendOf}
 use Rattle.segment.specs.declared.SegmentManager.{SegmentManager}
 

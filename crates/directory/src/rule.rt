@@ -77,7 +77,7 @@ fn keeps_rule(area: u64, directory: &[u8], used: usize) -> bool
     true
 }
 
-// Refusals 1 and 2 of the area and the directory, which every call tests before anything else.
+// Refusals 1 and 2 of the area and the directory, which every call tests before it changes anything.
 pub fn test(area_len: usize, directory: &[u8], used: usize) -> Tested
     ensures { λ r. ⌜ r ≡ testOf «area_len» (now (directory .entry)) used ⌝ }
 {

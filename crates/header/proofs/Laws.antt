@@ -1,22 +1,20 @@
 -- Laws of the header: its bytes are 13, it is read back as it was written, and written as it was read.
 -- Assumes nothing.
-use mathlib.Core.Path.{_≡_, refl, ap, _∙_}
+use mathlib.Core.Path.{_≡_, refl, _∙_}
 use mathlib.Core.List.{List, _++_, append-assoc}
 use Prim.Native.Nat.{ℕ, _+_, _^_, _<_, _≤_}
 use native.Mathlib.Omega.{arith}
 use borrow.Author.Tests.{eq-eqb}
 use mathlib.Core.Bool.{true}
-use lib.Dec.{eqb, lit<}
+use lib.Dec.{lit<}
 use lib.ListN.{length, drop, replicate, length-append, length-drop, take-append-drop}
 use lib.Seq.{sets, take-all, drop-drop}
 use Rattle.fields.specs.Le.{Bytes, leBytes, numAt}
 use Rattle.fields.proofs.Numbers.{length-bytes, num-front, num-skip, field-back}
 use Rattle.fields.proofs.Stores.{sets-join, sets-all}
 use Rattle.crc32.specs.Crc.{crc32Of}
-use Rattle.crc32.specs.ByTable.{tablesOf}
-use Rattle.crc32.proofs.ByTable.{crcBy-true}
 use Rattle.crc32.proofs.Register.{crc32-fits}
-use Rattle.header.specs.Header.{headerOf, headerBy, headerWith, headerBytes, headerAt, validFor, validBy}
+use Rattle.header.specs.Header.{headerOf, headerBytes, headerAt, validFor}
 use Rattle.header.specs.declared.WalEntryHeader.{WalEntryHeader}
 
 pub header-length : (h : WalEntryHeader) → length (headerBytes h) ≡ 13
@@ -64,15 +62,6 @@ header-there s n b =
     let joined : drop 4 (drop 8 s) ≡ drop 12 s = drop-drop 4 8 s in
     rw (field-back s 0 8 m b, field-back s 8 4 k b, field-back s 12 1 h b, take-all 1 (drop 12 s) last, ← joined, take-append-drop 4 (drop 8 s))
     (take-append-drop 8 s)
-
--- with the true tables it is the published checksum's header
-pub headerBy-true : (payload : List ℕ) → Bytes payload → headerBy tablesOf payload ≡ headerOf payload
-unfolding headerBy headerOf
-headerBy-true payload b = ap (λ s. headerWith s payload) (crcBy-true payload b)
-
-pub validBy-true : (h : WalEntryHeader) (payload : List ℕ) → Bytes payload → validBy tablesOf h payload ≡ validFor h payload
-unfolding validBy validFor
-validBy-true h payload b = ap (λ s. eqb s (h .checksum)) (crcBy-true payload b)
 
 -- a payload's own header, read back, is valid for it
 pub header-of-back : (payload rest : List ℕ) → Bytes payload → length payload < 2 ^ 64 → headerAt (headerBytes (headerOf payload) ++ rest) ≡ headerOf payload

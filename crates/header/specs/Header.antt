@@ -7,19 +7,11 @@ use lib.Dec.{eqb}
 use lib.ListN.{length}
 use Rattle.fields.specs.Le.{leBytes, numAt}
 use Rattle.crc32.specs.Crc.{crc32Of}
-use Rattle.crc32.specs.ByTable.{crcBy}
 use Rattle.header.specs.declared.WalEntryHeader.{WalEntryHeader}
 
--- the header of a payload with a given checksum
-abbrev pub headerWith : ℕ → List ℕ → WalEntryHeader
-headerWith checksum payload = record { length = length payload; checksum = checksum; version = 1 }
-
+-- the header of a payload
 unfoldable pub headerOf : List ℕ → WalEntryHeader
-headerOf payload = headerWith (crc32Of payload) payload
-
--- the same, with the checksum by lent tables
-unfoldable pub headerBy : List ℕ → List ℕ → WalEntryHeader
-headerBy tables payload = headerWith (crcBy tables payload) payload
+headerOf payload = record { length = length payload; checksum = crc32Of payload; version = 1 }
 
 -- its 13 bytes
 unfoldable pub headerBytes : WalEntryHeader → List ℕ
@@ -36,6 +28,3 @@ headerAt s = record { length = numAt 0 8 s; checksum = numAt 8 4 s; version = nu
 -- "CRC-32 of the payload": whether the header's checksum is a payload's
 unfoldable pub validFor : WalEntryHeader → List ℕ → Bool
 validFor h payload = eqb (crc32Of payload) (h .checksum)
-
-unfoldable pub validBy : List ℕ → WalEntryHeader → List ℕ → Bool
-validBy tables h payload = eqb (crcBy tables payload) (h .checksum)

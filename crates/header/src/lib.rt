@@ -1,6 +1,6 @@
 // "A header is 13 bytes: payload length (8), CRC-32 of the payload (4), version 1."
 ghost use mathlib.Core.Path.{_≡_};
-ghost use Rattle.header.specs.Header.{headerOf, headerBy, headerBytes, headerAt, validFor, validBy};
+ghost use Rattle.header.specs.Header.{headerOf, headerBytes, headerAt, validFor};
 
 pub struct WalEntryHeader {
     // Of the payload, without the header.
@@ -21,17 +21,6 @@ impl WalEntryHeader {
         WalEntryHeader {
             length: data.len() as u64,
             checksum: crc32::crc32(data),
-            version: WalEntryHeader::VERSION,
-        }
-    }
-
-    // Whoever makes many headers lends the tables.
-    pub fn new_by(tables: &crc32::Tables, data: &[u8]) -> Self
-        ensures { λ r. ⌜ r ≡ headerBy (now (tables .entry)) (now («data» .entry)) ⌝ }
-    {
-        WalEntryHeader {
-            length: data.len() as u64,
-            checksum: crc32::crc32_by(tables, data),
             version: WalEntryHeader::VERSION,
         }
     }
@@ -67,11 +56,5 @@ impl WalEntryHeader {
         ensures { λ r. ⌜ r ≡ validFor self (now («data» .entry)) ⌝ }
     {
         crc32::crc32(data) == self.checksum
-    }
-
-    pub fn validate_by(self, tables: &crc32::Tables, data: &[u8]) -> bool
-        ensures { λ r. ⌜ r ≡ validBy (now (tables .entry)) self (now («data» .entry)) ⌝ }
-    {
-        crc32::crc32_by(tables, data) == self.checksum
     }
 }

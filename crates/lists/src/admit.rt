@@ -53,8 +53,8 @@ fn decided(marker: RecoveryAction, before: RecoveryAction) -> RecoveryAction
     }
 }
 
-// "All its non-marker entries belong to it, those after the marker too": whatever stood before.
-fn to_count(marker: RecoveryAction, before: RecoveryAction) -> u64
+// "All its non-marker entries belong to it, those after the marker too."
+fn to_count(marker: RecoveryAction) -> u64
     ensures { λ r. ⌜ r ≡ unmarked marker ⌝ }
 {
     match marker {
@@ -73,7 +73,7 @@ fn noted(entry: EntryRecord, transaction: TransactionRecord) -> TransactionRecor
     TransactionRecord {
         tx_id: transaction.tx_id,
         action: decided(marker, before),
-        count: std::num::wrapping_add_u64(transaction.count, to_count(marker, before)),
+        count: std::num::wrapping_add_u64(transaction.count, to_count(marker)),
     }
 }
 

@@ -37,7 +37,7 @@ pub record Advancing : Type 0 where
   pub answer : Answer
   pub target : List ℕ
 
--- what a call gave back, with the target that it left
+-- an answer, with the target that goes with it
 abbrev pub advancing : Checkpointed → List ℕ → Advancing
 advancing r target = record { answer = checkpointedAs r; target = target }
 

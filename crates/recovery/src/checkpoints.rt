@@ -2,10 +2,7 @@
 use super::Recovery;
 use refusal::Refusal;
 ghost use mathlib.Core.Path.{_≡_};
-ghost use mathlib.Core.Bool.{cond};
-ghost use lib.Seq.{sets};
-ghost use Rattle.fields.specs.Le.{leBytes};
-ghost use Rattle.recovery.specs.Checkpoint.{checkpointAt, advancing, advanceIf, checkpointing, checkpointOf};
+ghost use Rattle.recovery.specs.Checkpoint.{checkpointAt, checkpointing, checkpointOf};
 
 // Of a checkpoint's image.
 const SIZE: usize = 8;
@@ -22,25 +19,6 @@ pub fn read_checkpoint(image: &[u8]) -> u64
         return 0;
     }
     fields::get_u64(image, 0)
-}
-
-// The target is written only where the checkpoint moves on.
-fn write_if(exceeds: bool, highest: u64, target: &mut [u8])
-    ensures { λ _. ⌜ now (target .exit) ≡ cond exceeds (sets (now (target .entry)) 0 (leBytes 8 highest)) (now (target .entry)) ⌝ }
-{
-    if exceeds {
-        fields::put_u64(target, 0, highest);
-    }
-}
-
-fn advance(exceeds: bool, highest: u64, target: &mut [u8]) -> Checkpointed
-    ensures { λ r. ⌜ advancing r (now (target .exit)) ≡ advanceIf exceeds highest (now (target .entry)) ⌝ }
-{
-    write_if(exceeds, highest, target);
-    if exceeds {
-        return Checkpointed::At(highest);
-    }
-    Checkpointed::Refused(Refusal::NoNewCheckpoints)
 }
 
 // It runs the recovery itself and trusts no lists. The target is tested before anything is read.
@@ -63,7 +41,11 @@ pub fn checkpoint(
         Recovery::Done(recovered) => {
             let stats = recovered.stats;
             let highest = lists::tally::highest_committed(transactions, stats.total_transactions);
-            advance(read_checkpoint(stored) < highest, highest, target)
+            if highest <= read_checkpoint(stored) {
+                return Checkpointed::Refused(Refusal::NoNewCheckpoints);
+            }
+            fields::put_u64(target, 0, highest);
+            Checkpointed::At(highest)
         }
     }
 }

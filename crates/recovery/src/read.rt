@@ -1,4 +1,4 @@
-// A log read into the two lists. No payload is copied, and the checksum's tables are made once a call.
+// A log read into the two lists. No payload is copied.
 use entry::Place;
 use entry::WalEntry;
 use lists::admit::Full;
@@ -8,7 +8,6 @@ use scan::Step;
 ghost use mathlib.Core.Path.{_≡_};
 ghost use Prim.Native.Nat.{_+_, _<_, _≤_};
 ghost use lib.ListN.{length};
-ghost use Rattle.crc32.specs.ByTable.{tablesOf};
 ghost use Rattle.directory.specs.Record.{recordsOf};
 ghost use Rattle.directory.specs.Rule.{testOf};
 ghost use Rattle.directory.specs.declared.rule.Tested.the-variants.{Sound};
@@ -56,20 +55,19 @@ fn ended(progress: Progress, lists: Lists, step: Step) -> Progress
 
 // The good entries of a segment that starts at `base`, up to its end or its first damage.
 fn read_segment_entries(
-    tables: &crc32::Tables,
     segment: &[u8],
     base: u64,
     entries: &mut [u8],
     transactions: &mut [u8],
     progress: Progress,
 ) -> Progress
-    requires { ⌜ (now tables ≡ tablesOf) × (base + length (now segment) ≤ 1_073_741_824) × (progress .«partial_writes» < 4_096) × (progress .«checksum_failures» < 4_096) ⌝ }
+    requires { ⌜ (base + length (now segment) ≤ 1_073_741_824) × (progress .«partial_writes» < 4_096) × (progress .«checksum_failures» < 4_096) ⌝ }
     ensures { λ r. ⌜ reached (now (entries .exit)) (now (transactions .exit)) r ≡ reachSegment (reached (now (entries .entry)) (now (transactions .entry)) progress) base (readSegment (now (segment .entry))) ⌝ }
 {
     let mut lists = progress.lists;
     let mut at = 0;
     loop {
-        let step = scan::scan_step_by(tables, segment, at);
+        let step = scan::scan_step(segment, at);
         let Step::Entry { entry, payload } = step else {
             return ended(progress, lists, step);
         };
@@ -78,15 +76,7 @@ fn read_segment_entries(
     }
 }
 
-// "Each ends that segment only; the next is read.": whatever damage was counted.
-fn next_segment(k: usize, used: usize, progress: Progress) -> usize
-    requires { ⌜ k < used ⌝ }
-    ensures { λ r. ⌜ r ≡ k + 1 ⌝ }
-{
-    k + 1
-}
-
-// The segments by ascending id, which is the directory's order.
+// The segments by ascending id, which is the directory's order. Damage ends its segment only; the next is read.
 pub(crate) fn read_log(
     area: &[u8],
     directory: &[u8],
@@ -97,7 +87,6 @@ pub(crate) fn read_log(
     requires { ⌜ testOf (length (now area)) (now directory) used ≡ Sound ⌝ }
     ensures { λ r. ⌜ reached (now (entries .exit)) (now (transactions .exit)) r ≡ reachLog (reached (now (entries .entry)) (now (transactions .entry)) unread) (now (area .entry)) (recordsOf used (now (directory .entry))) ⌝ }
 {
-    let tables = crc32::tables();
     let mut progress = Progress {
         lists: Lists {
             entries: 0,
@@ -114,15 +103,8 @@ pub(crate) fn read_log(
         let start = segment.start as usize;
         let end = start + segment.length as usize;
         let base = segment.start;
-        progress = read_segment_entries(
-            &tables,
-            &area[start..end],
-            base,
-            entries,
-            transactions,
-            progress,
-        );
-        k = next_segment(k, used, progress);
+        progress = read_segment_entries(&area[start..end], base, entries, transactions, progress);
+        k += 1;
     }
     progress
 }

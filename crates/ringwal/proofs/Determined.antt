@@ -28,19 +28,14 @@ use Rattle.fields.proofs.bytes.zero as zero
 use Rattle.fields.proofs.bytes.clear as clear
 use Rattle.fields.proofs.bytes.compare as compare
 use Rattle.fields.proofs.bytes.same as same
-use Rattle.crc32.proofs.tables as tables
 use Rattle.crc32.proofs.crc32 as crc32
-use Rattle.crc32.proofs.crc32_by as crc32-by
 use Rattle.crc32.proofs.update as update
-use Rattle.crc32.proofs.update_by as update-by
 use Rattle.utf8.proofs.is_utf8 as is-utf8
 use Rattle.header.proofs.WalEntryHeader.new as header-new
-use Rattle.header.proofs.WalEntryHeader.new_by as header-new-by
 use Rattle.header.proofs.WalEntryHeader.to_bytes as header-to-bytes
 use Rattle.header.proofs.WalEntryHeader.read as header-read
 use Rattle.header.proofs.WalEntryHeader.from_bytes as header-from-bytes
 use Rattle.header.proofs.WalEntryHeader.validate as header-validate
-use Rattle.header.proofs.WalEntryHeader.validate_by as header-validate-by
 use Rattle.payload.proofs.well_formed as well-formed
 use Rattle.payload.proofs.encode as encode
 use Rattle.entry.proofs.WalEntry.tx_id as entry-tx-id
@@ -57,6 +52,9 @@ use Rattle.directory.proofs.lent.Lent.fits as lent-fits
 use Rattle.directory.proofs.record.record_at as record-at
 use Rattle.directory.proofs.record.put_record as put-record
 use Rattle.directory.proofs.rule.test as test
+use Rattle.plan.proofs.new_segment as new-segment
+use Rattle.plan.proofs.append_test as append-test
+use Rattle.plan.proofs.plan_append as plan-append
 use Rattle.segment.proofs.SegmentManager.new as manager-new
 use Rattle.segment.proofs.SegmentManager.with_default_size as manager-with-default-size
 use Rattle.segment.proofs.SegmentManager.open as manager-open
@@ -67,7 +65,6 @@ use Rattle.records.proofs.moves.move_up as move-up
 use Rattle.records.proofs.moves.move_down as move-down
 use Rattle.scan.proofs.judge as judge
 use Rattle.scan.proofs.scan_step as scan-step
-use Rattle.scan.proofs.scan_step_by as scan-step-by
 use Rattle.lists.proofs.entries.entry_at as entry-at
 use Rattle.lists.proofs.entries.put_entry as put-entry
 use Rattle.lists.proofs.transactions.transaction_at as transaction-at
@@ -157,20 +154,11 @@ module _ {M : Type 1} (𝓤 : URA M) (H : Heap 𝓤) (A : Atoms 𝓤) (mem : Mem
 
   -- ---- crc32
 
-  pub tables-determined : Determined tables.ended (tables.clauses 𝓤 H A mem run)
-  tables-determined κs a g r r′ ws ws′ = answer refl
-
   pub crc32-determined : Determined crc32.ended (crc32.clauses 𝓤 H A mem run)
   crc32-determined κs a g r r′ ws ws′ = answer refl
 
-  pub crc32-by-determined : Determined crc32-by.ended (crc32-by.clauses 𝓤 H A mem run)
-  crc32-by-determined κs a g r r′ ws ws′ = answer refl
-
   pub update-determined : Determined update.ended (update.clauses 𝓤 H A mem run)
   update-determined κs a g r r′ ws ws′ = answer refl
-
-  pub update-by-determined : Determined update-by.ended (update-by.clauses 𝓤 H A mem run)
-  update-by-determined κs a g r r′ ws ws′ = answer refl
 
   -- ---- utf8
 
@@ -181,9 +169,6 @@ module _ {M : Type 1} (𝓤 : URA M) (H : Heap 𝓤) (A : Atoms 𝓤) (mem : Mem
 
   pub header-new-determined : Determined header-new.ended (header-new.clauses 𝓤 H A mem run)
   header-new-determined κs a g r r′ ws ws′ = answer refl
-
-  pub header-new-by-determined : Determined header-new-by.ended (header-new-by.clauses 𝓤 H A mem run)
-  header-new-by-determined κs a g r r′ ws ws′ = answer refl
 
   pub header-to-bytes-determined : Determined header-to-bytes.ended (header-to-bytes.clauses 𝓤 H A mem run)
   header-to-bytes-determined κs a g r r′ ws ws′ = answer refl
@@ -196,9 +181,6 @@ module _ {M : Type 1} (𝓤 : URA M) (H : Heap 𝓤) (A : Atoms 𝓤) (mem : Mem
 
   pub header-validate-determined : Determined header-validate.ended (header-validate.clauses 𝓤 H A mem run)
   header-validate-determined κs a g r r′ ws ws′ = answer refl
-
-  pub header-validate-by-determined : Determined header-validate-by.ended (header-validate-by.clauses 𝓤 H A mem run)
-  header-validate-by-determined κs a g r r′ ws ws′ = answer refl
 
   -- ---- payload
 
@@ -256,6 +238,17 @@ module _ {M : Type 1} (𝓤 : URA M) (H : Heap 𝓤) (A : Atoms 𝓤) (mem : Mem
   pub test-determined : Determined test.ended (test.clauses 𝓤 H A mem run)
   test-determined κs a g r r′ ws ws′ = answer refl
 
+  -- ---- plan
+
+  pub new-segment-determined : Determined new-segment.ended (new-segment.clauses 𝓤 H A mem run)
+  new-segment-determined κs a g r r′ ws ws′ = answer refl
+
+  pub append-test-determined : Determined append-test.ended (append-test.clauses 𝓤 H A mem run)
+  append-test-determined κs a g r r′ ws ws′ = answer refl
+
+  pub plan-append-determined : Determined plan-append.ended (plan-append.clauses 𝓤 H A mem run)
+  plan-append-determined κs a g r r′ ws ws′ = answer refl
+
   -- ---- segment
 
   pub manager-new-determined : Determined manager-new.ended (manager-new.clauses 𝓤 H A mem run)
@@ -291,9 +284,6 @@ module _ {M : Type 1} (𝓤 : URA M) (H : Heap 𝓤) (A : Atoms 𝓤) (mem : Mem
 
   pub scan-step-determined : Determined scan-step.ended (scan-step.clauses 𝓤 H A mem run)
   scan-step-determined κs a g r r′ ws ws′ = answer refl
-
-  pub scan-step-by-determined : Determined scan-step-by.ended (scan-step-by.clauses 𝓤 H A mem run)
-  scan-step-by-determined κs a g r r′ ws ws′ = answer refl
 
   -- ---- lists
 

@@ -18,7 +18,7 @@ use Rattle.directory.specs.Image.{segmentBytes}
 use Rattle.directory.specs.Lent.{fitsOf}
 use Rattle.directory.specs.Record.{recordAt, recordBytes, recordsOf}
 use Rattle.directory.specs.Rule.{liesOf, followsOf, ruleFrom, directoryRule, testOf}
-use Rattle.scan.specs.Step.{judgeWith, stepFrom}
+use Rattle.scan.specs.Step.{judgeOf, stepFrom}
 use Rattle.scan.specs.Walk.{walk, walkFrom}
 use Rattle.scan.specs.Read.{readFrom, readSegment}
 use Rattle.lists.specs.Entries.{highestIn}
@@ -102,5 +102,5 @@ benchReadings =
 
 -- every reading is what the definitions compute
 pub readings : map (λ (r : Reading). answerTo (r .question)) benchReadings ≡ map (λ (r : Reading). r .answer) benchReadings
-unfolding benchReadings insertThenCommit commitThenAbort endless recovering recoverOf listsTestOf testOf fitsOf directoryRule ruleFrom followsOf liesOf recordsOf recordAt recordBytes readLog segmentBytes readInto fullOf transactionsOf noteAll note put compareNumbers noted begun transactionBytes dense bytesOf recoveredOf statsOf tallyOf highestIn nextOf entryBytes payloadOf fixedBytes partBytes headerBytes headerOf leBytes readSegment readFrom walkFrom walk stepFrom judgeWith headerAt validFor leOf crc32Of register byteStep bitSteps bitStep decodeOf byKind insertAt keyAt partAt isUtf8 completes any after Utf8.begun utf8-char utf8-1 utf8-2 utf8-3 utf8-4 tail
+unfolding benchReadings insertThenCommit commitThenAbort endless recovering recoverOf listsTestOf testOf fitsOf directoryRule ruleFrom followsOf liesOf recordsOf recordAt recordBytes readLog segmentBytes readInto fullOf transactionsOf noteAll note put compareNumbers noted begun transactionBytes dense bytesOf recoveredOf statsOf tallyOf highestIn nextOf entryBytes payloadOf fixedBytes partBytes headerBytes headerOf leBytes readSegment readFrom walkFrom walk stepFrom judgeOf headerAt validFor leOf crc32Of register byteStep bitSteps bitStep decodeOf byKind insertAt keyAt partAt isUtf8 completes any after Utf8.begun utf8-char utf8-1 utf8-2 utf8-3 utf8-4 tail
 readings = refl

@@ -14,7 +14,7 @@ use Rattle.names.specs.declared.Parsed.the-variants.{NoName, Id}
 use Rattle.payload.specs.Content.{commit, fixedBytes, payloadOf, wellFormed}
 use Rattle.recovery.specs.Recover.{refused}
 use Rattle.recovery.specs.declared.Next.the-variants.{Exhausted}
-use Rattle.segment.specs.Plan.{behindOf, planOf, appendTestOf}
+use Rattle.plan.specs.Plan.{behindOf, planOf, appendTestOf}
 use Rattle.segment.specs.Writing.{counted, fresh, writtenOf, contentOf, appendOf}
 use Rattle.ringwal_c.specs.Naming.{parseAnswer}
 use Rattle.ringwal_c.specs.Recovering.{nextState, recoverAnswer}

@@ -10,13 +10,13 @@ use lib.ListN.{length, take, drop, length-append, length-take}
 use lib.Seq.{drop-append-seam, drop-append-add, take-append-add, take-at, drop-at}
 use Rattle.fields.specs.Le.{Bytes}
 use Rattle.fields.proofs.Cases.{caseB}
-use Rattle.header.specs.Header.{headerOf, headerBytes, entryBytes, headerAt, validFor}
+use Rattle.header.specs.Header.{headerOf, headerBytes, entryBytes, headerAt}
 use Rattle.header.proofs.Laws.{header-length, header-of-back, header-of-valid}
 use Rattle.entry.specs.Decode.{bytesAt, decodeOf}
 use Rattle.entry.specs.declared.Place.{Place}
 use Rattle.entry.specs.declared.WalEntry.{WalEntry}
 use Rattle.entry.specs.declared.decoding.Decoded.the-variants as Decodes
-use Rattle.scan.specs.Step.{judgedAs, judgeWith, stepAs, stepAt}
+use Rattle.scan.specs.Step.{judgedAs, judgeOf, stepAs, stepAt}
 use Rattle.scan.specs.Read.{onRead, readFrom}
 use Rattle.scan.specs.declared.Step.the-variants.{Entry, Torn}
 use Rattle.scan.proofs.Steps.{payloadAt, from-short, from-beyond, from-whole}
@@ -25,8 +25,8 @@ use Rattle.scan.proofs.Walks.{read-entry, read-partial}
 abbrev pub placeBehind : List ℕ → List ℕ → Place
 placeBehind before payload = record { start = length before + 13; len = length payload }
 
-judge-written : (payload : List ℕ) → judgeWith validFor (headerOf payload) payload ≡ judgedAs (decodeOf payload)
-unfolding judgeWith
+judge-written : (payload : List ℕ) → judgeOf (headerOf payload) payload ≡ judgedAs (decodeOf payload)
+unfolding judgeOf
 judge-written payload = rw (header-of-valid payload)
 
 module _ (before payload : List ℕ) (bytes : Bytes payload) (fits : length payload < 256 ^ 8) where
@@ -42,7 +42,7 @@ module _ (before payload : List ℕ) (bytes : Bytes payload) (fits : length payl
       let n : length s ≡ length before + (13 + length payload + length rest) = rw (length-append, length-append, length-append, header-length) in
       let l : 13 ≤ length s - length before = omega arith in
       let k : payloadAt s (length before) .len ≤ length s - length before - 13 = rw header (omega arith) in
-      from-whole validFor s (length before) l k ∙ rw (header, there) (ap (stepAs (placeBehind before payload)) (judge-written payload))
+      from-whole s (length before) l k ∙ rw (header, there) (ap (stepAs (placeBehind before payload)) (judge-written payload))
 
   pub read-whole : (e : WalEntry) (used : ℕ) (rest : List ℕ) → decodeOf payload ≡ Decodes.Entry e used → readFrom (before ++ (entryBytes payload ++ rest)) (length before) ≡ onRead (Entry e (placeBehind before payload)) (readFrom (before ++ (entryBytes payload ++ rest)) (length before + 13 + length payload))
   read-whole e used rest d =
@@ -55,7 +55,7 @@ module _ (before payload : List ℕ) (bytes : Bytes payload) (fits : length payl
       let s = before ++ take n (entryBytes payload) in
       let e : length s ≡ length before + n = rw (length-append, length-take, length-append, header-length) (omega arith) in
       caseB (ltb n 13)
-      (λ q. from-short validFor s (length before) (omega arith) (omega (arith, ltb-true)))
+      (λ q. from-short s (length before) (omega arith) (omega (arith, ltb-true)))
       (λ q.
       let h = headerBytes (headerOf payload) in
       let m : n ≡ length h + (n - 13) = rw header-length (omega (arith, ltb-false)) in
@@ -63,7 +63,7 @@ module _ (before payload : List ℕ) (bytes : Bytes payload) (fits : length payl
       ap (λ k. take k (entryBytes payload)) m ∙ take-append-add h payload (n - 13) in
       let header : headerAt (drop (length before) s) ≡ headerOf payload =
       rw (drop-append-seam, front) (header-of-back payload (take (n - 13) payload) bytes fits) in
-      from-beyond validFor s (length before) (omega (arith, ltb-false)) (rw header (omega (arith, ltb-false))))
+      from-beyond s (length before) (omega (arith, ltb-false)) (rw header (omega (arith, ltb-false))))
 
   pub read-torn : (n : ℕ) → 0 < n → n < 13 + length payload → readFrom (before ++ take n (entryBytes payload)) (length before) ≡ record { good = []; partial = 1; checksum = 0 }
   read-torn n some proper =

@@ -12,7 +12,7 @@ use Rattle.payload.specs.Kind.{byKind}
 use Rattle.payload.specs.Content.{insert, commit, fixedBytes, partBytes, payloadOf}
 use Rattle.entry.specs.Decode.{partAt, keyAt, insertAt, decodeOf}
 use Rattle.entry.specs.declared.WalEntry.the-variants.{Insert, Commit}
-use Rattle.scan.specs.Step.{judgeWith, stepFrom, stepAt}
+use Rattle.scan.specs.Step.{judgeOf, stepFrom, stepAt}
 use Rattle.scan.specs.Walk.{walk, walkFrom}
 use Rattle.scan.specs.Read.{Good, Reading, readFrom, readSegment}
 use Rattle.scan.specs.Highest.{highestFrom, highestOf}
@@ -42,7 +42,7 @@ reading good partial checksum = record { good = good; partial = partial; checksu
 -- "P cuts: 84 committed 1; 83 incomplete 1, partial 1; 51 incomplete 1, partial 0; 50, 13, 12 and 1 total 0, partial 1;
 -- 0 all zero."
 cuts : map (λ n. readSegment (take n log)) (84 ∷ 83 ∷ 51 ∷ 50 ∷ 13 ∷ 12 ∷ 1 ∷ 0 ∷ []) ≡ reading (inserted ∷ committed ∷ []) 0 0 ∷ reading (inserted ∷ []) 1 0 ∷ reading (inserted ∷ []) 0 0 ∷ reading [] 1 0 ∷ reading [] 1 0 ∷ reading [] 1 0 ∷ reading [] 1 0 ∷ reading [] 0 0 ∷ []
-unfolding log entryBytes payloadOf fixedBytes partBytes headerBytes headerOf leBytes readSegment readFrom walkFrom walk stepFrom judgeWith headerAt validFor leOf crc32Of register byteStep bitSteps bitStep decodeOf byKind insertAt keyAt partAt isUtf8 completes any after begun utf8-char utf8-1 utf8-2 utf8-3 utf8-4 tail
+unfolding log entryBytes payloadOf fixedBytes partBytes headerBytes headerOf leBytes readSegment readFrom walkFrom walk stepFrom judgeOf headerAt validFor leOf crc32Of register byteStep bitSteps bitStep decodeOf byKind insertAt keyAt partAt isUtf8 completes any after begun utf8-char utf8-1 utf8-2 utf8-3 utf8-4 tail
 cuts = refl
 
 -- "a header length of 2^64 - 1 is a partial write"
@@ -55,25 +55,25 @@ emptyThenNine : List ℕ
 emptyThenNine = entryBytes [] ++ entryBytes (payloadOf 9 1 commit)
 
 empty-read : readSegment emptyThenNine ≡ reading [] 0 1
-unfolding emptyThenNine entryBytes payloadOf fixedBytes headerBytes headerOf leBytes readSegment readFrom walkFrom walk stepFrom judgeWith headerAt validFor leOf crc32Of register byteStep bitSteps bitStep decodeOf
+unfolding emptyThenNine entryBytes payloadOf fixedBytes headerBytes headerOf leBytes readSegment readFrom walkFrom walk stepFrom judgeOf headerAt validFor leOf crc32Of register byteStep bitSteps bitStep decodeOf
 empty-read = refl
 
 empty-highest : highestOf emptyThenNine ≡ 9
-unfolding emptyThenNine entryBytes payloadOf fixedBytes headerBytes headerOf leBytes highestOf highestFrom walkFrom walk stepFrom judgeWith headerAt validFor leOf crc32Of register byteStep bitSteps bitStep decodeOf byKind
+unfolding emptyThenNine entryBytes payloadOf fixedBytes headerBytes headerOf leBytes highestOf highestFrom walkFrom walk stepFrom judgeOf headerAt validFor leOf crc32Of register byteStep bitSteps bitStep decodeOf byKind
 empty-highest = refl
 
 -- the value byte is not the one that was written: nothing is read, not even the good commit behind it
 wrong-read : readSegment (set log 50 8) ≡ reading [] 0 1
-unfolding log entryBytes payloadOf fixedBytes partBytes headerBytes headerOf leBytes readSegment readFrom walkFrom walk stepFrom judgeWith headerAt validFor leOf crc32Of register byteStep bitSteps bitStep
+unfolding log entryBytes payloadOf fixedBytes partBytes headerBytes headerOf leBytes readSegment readFrom walkFrom walk stepFrom judgeOf headerAt validFor leOf crc32Of register byteStep bitSteps bitStep
 wrong-read = refl
 
 wrong-highest : highestOf (set log 50 8) ≡ 0
-unfolding log entryBytes payloadOf fixedBytes partBytes headerBytes headerOf leBytes highestOf highestFrom walkFrom walk stepFrom judgeWith headerAt validFor leOf crc32Of register byteStep bitSteps bitStep
+unfolding log entryBytes payloadOf fixedBytes partBytes headerBytes headerOf leBytes highestOf highestFrom walkFrom walk stepFrom judgeOf headerAt validFor leOf crc32Of register byteStep bitSteps bitStep
 wrong-highest = refl
 
 -- "The version is written and never tested on reading."
 other-version : stepAt (set (entryBytes (payloadOf 7 1 commit)) 12 2) 0 ≡ Entry (Commit 7 1) (record { start = 13; len = 20 })
-unfolding entryBytes payloadOf fixedBytes headerBytes headerOf leBytes stepAt stepFrom judgeWith headerAt validFor leOf crc32Of register byteStep bitSteps bitStep decodeOf byKind
+unfolding entryBytes payloadOf fixedBytes headerBytes headerOf leBytes stepAt stepFrom judgeOf headerAt validFor leOf crc32Of register byteStep bitSteps bitStep decodeOf byKind
 other-version = refl
 
 -- an offset at or beyond the segment's end

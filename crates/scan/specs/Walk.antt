@@ -3,7 +3,6 @@
 use Prim.Native.Nat.{ℕ, zero, suc, _-_}
 use mathlib.Core.List.{List, [], _∷_}
 use lib.ListN.{drop}
-use Rattle.header.specs.Header.{validFor}
 use Rattle.entry.specs.Decode.{endOf}
 use Rattle.entry.specs.declared.Place.{Place}
 use Rattle.scan.specs.Step.{stepFrom}
@@ -25,8 +24,8 @@ module _ {A : Type 0} (ends : A) (on : Step → A → A) where
   walk [] k at = ends
   walk (b ∷ bs) (suc k) at = walk bs k at
   walk (b ∷ bs) zero at =
-      on (stepFrom validFor at (b ∷ bs))
-      (behind (stepFrom validFor at (b ∷ bs)) ends (λ p. walk bs (endOf p - at - 1) (endOf p)))
+      on (stepFrom at (b ∷ bs))
+      (behind (stepFrom at (b ∷ bs)) ends (λ p. walk bs (endOf p - at - 1) (endOf p)))
 
   unfoldable pub walkFrom : List ℕ → (at : ℕ) → A
   walkFrom segment at = walk (drop at segment) 0 at

@@ -7,9 +7,8 @@ ghost use mathlib.Core.Path.{_≡_};
 ghost use Prim.Native.Nat.{_-_, _≤_};
 ghost use lib.Dec.{leb};
 ghost use lib.ListN.{length};
-ghost use Rattle.header.specs.Header.{validBy};
 ghost use Rattle.entry.specs.Decode.{bytesAt, endOf};
-ghost use Rattle.scan.specs.Step.{judgeWith, stepAs, stepAt, stepBy};
+ghost use Rattle.scan.specs.Step.{judgeOf, stepAs, stepAt};
 
 // A header with its payload.
 pub enum Judged {
@@ -28,10 +27,10 @@ pub enum Step {
 }
 
 // The checksum first: it tells damage from a payload that was written so. The version isn't tested.
-pub fn judge(tables: &crc32::Tables, header: WalEntryHeader, payload: &[u8]) -> Judged
-    ensures { λ r. ⌜ r ≡ judgeWith (validBy (now (tables .entry))) header (now (payload .entry)) ⌝ }
+pub fn judge(header: WalEntryHeader, payload: &[u8]) -> Judged
+    ensures { λ r. ⌜ r ≡ judgeOf header (now (payload .entry)) ⌝ }
 {
-    if !header.validate_by(tables, payload) {
+    if !header.validate(payload) {
         return Judged::WrongChecksum;
     }
     let Decoded::Entry { entry, .. } = entry::decode(payload) else {
@@ -41,13 +40,13 @@ pub fn judge(tables: &crc32::Tables, header: WalEntryHeader, payload: &[u8]) -> 
 }
 
 // The same where the payload stands, in the segment.
-fn judge_at(tables: &crc32::Tables, segment: &[u8], header: WalEntryHeader, payload: Place) -> Step
+fn judge_at(segment: &[u8], header: WalEntryHeader, payload: Place) -> Step
     requires { ⌜ endOf payload ≤ length (now segment) ⌝ }
-    ensures { λ r. ⌜ r ≡ stepAs payload (judgeWith (validBy (now (tables .entry))) header (bytesAt (now (segment .entry)) payload)) ⌝ }
+    ensures { λ r. ⌜ r ≡ stepAs payload (judgeOf header (bytesAt (now (segment .entry)) payload)) ⌝ }
 {
     let start = payload.start;
     let end = payload.start + payload.len;
-    match judge(tables, header, &segment[start..end]) {
+    match judge(header, &segment[start..end]) {
         Judged::WrongChecksum => Step::WrongChecksum,
         Judged::Undecodable => Step::Undecodable { payload },
         Judged::Good(entry) => Step::Entry { entry, payload },
@@ -63,9 +62,8 @@ fn has(left: usize, length: u64) -> bool
     length <= (left - WalEntryHeader::SIZE) as u64
 }
 
-// Whoever takes many steps lends the tables.
-pub fn scan_step_by(tables: &crc32::Tables, segment: &[u8], at: usize) -> Step
-    ensures { λ r. ⌜ r ≡ stepBy (now (tables .entry)) (now (segment .entry)) at ⌝ }
+pub fn scan_step(segment: &[u8], at: usize) -> Step
+    ensures { λ r. ⌜ r ≡ stepAt (now (segment .entry)) at ⌝ }
 {
     if segment.len() <= at {
         return Step::End;
@@ -82,13 +80,5 @@ pub fn scan_step_by(tables: &crc32::Tables, segment: &[u8], at: usize) -> Step
         start: at + WalEntryHeader::SIZE,
         len: header.length as usize,
     };
-    judge_at(tables, segment, header, payload)
-}
-
-// For a single step.
-pub fn scan_step(segment: &[u8], at: usize) -> Step
-    ensures { λ r. ⌜ r ≡ stepAt (now (segment .entry)) at ⌝ }
-{
-    let made = crc32::tables();
-    scan_step_by(&made, segment, at)
+    judge_at(segment, header, payload)
 }

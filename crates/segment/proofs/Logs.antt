@@ -8,10 +8,11 @@ use mathlib.Core.Option.{Option, none, some}
 use Prim.Native.Nat.{ℕ, _+_, _-_, _<_, _≤_}
 use native.Mathlib.Omega.{arith}
 use borrow.Author.Tests.{le-leb}
-use lib.Dec.{eqb}
+use types.Run.{OneOf, miss}
+use denote.Enum.Declared.{tagOf}
 use lib.ListN.{length, take, drop, length-append, length-drop}
 use lib.Seq.{sets, sets-eq, length-sets, length-take-le, take-at, take-append-seam}
-use Rattle.fields.proofs.Cases.{caseB, tests}
+use Rattle.fields.proofs.Cases.{caseB}
 use Rattle.fields.proofs.Stores.{sets-join, sets-front, take-sets, drop-sets}
 use Rattle.refusal.specs.declared.Refusal.{Refusal}
 use Rattle.refusal.specs.declared.Refusal.the-variants.{InvalidEntry}
@@ -21,6 +22,7 @@ use Rattle.payload.specs.Content.{Content, payloadOf, wellFormed}
 use Rattle.payload.specs.Encode.{isWellFormed, putAnswer, putTarget, EncodeIs}
 use Rattle.payload.specs.declared.Encoded.{Encoded}
 use Rattle.payload.specs.declared.Encoded.the-variants as Encodes
+use Rattle.payload.proofs.Encoded.{the-type}
 use Rattle.payload.proofs.Laws.{payload-most}
 use Rattle.directory.specs.Record.{recordsOf, endOf}
 use Rattle.directory.specs.Rule.{testOf, endBefore, ruleFrom, lastOf, newSegment, afterRecord}
@@ -33,14 +35,14 @@ use Rattle.directory.specs.declared.rule.Tested.the-variants as Test
 use Rattle.directory.proofs.Rules.{follows-says, rule-parts}
 use Rattle.directory.proofs.Sound.{sound-says}
 use Rattle.segment.specs.Answer.{Answer, refused, written}
-use Rattle.segment.specs.Plan.{lastUsed, ifUsed, appendTestOf, planOf}
+use Rattle.plan.specs.Plan.{lastUsed, appendTestOf, planOf, planAfter, planAppendOf}
 use Rattle.directory.specs.Image.{segmentBytes}
-use Rattle.segment.specs.Writing.{Log, refusedAs, appendAs, writtenOf, ifTested, appendEntryOf, contentOf, appendOf}
+use Rattle.segment.specs.Writing.{Log, lowestOf, refusedAs, appendAs, writtenOf, ifTested, appendEntryOf, contentOf, appendOf}
 use Rattle.segment.specs.declared.SegmentManager.{SegmentManager}
-use Rattle.segment.specs.declared.plan.Plan.{Plan}
-use Rattle.segment.specs.declared.plan.Plan.the-variants as Planned
-use Rattle.segment.specs.declared.plan.Write.{Write}
-use Rattle.segment.proofs.Plans.{IsBehind, last-is, plan-says}
+use Rattle.plan.specs.declared.Plan.{Plan}
+use Rattle.plan.specs.declared.Plan.the-variants as Planned
+use Rattle.plan.specs.declared.Write.{Write}
+use Rattle.plan.proofs.Plans.{IsBehind, last-is, plan-says, test-says}
 
 -- ---- the bytes of an entry
 
@@ -53,17 +55,6 @@ pub entry-stored : (area payload : List ℕ) (at : ℕ) → sets (sets area at (
 unfolding entryBytes
 entry-stored area payload at =
     sets-join area (headerBytes (headerOf payload)) payload at (at + 13) (rw header-length)
-
--- ---- the test of an append
-
-pub test-says : (area : ℕ) (d : List ℕ) (used : ℕ) → appendTestOf area d used ≡ Sound → (testOf area d used ≡ Sound) × (0 < used)
-unfolding appendTestOf
-test-says area d used e = told (testOf area d used) refl (eqb used 0) refl e
-  where
-    told : (t : Tested) → testOf area d used ≡ t → (z : Bool) → eqb used 0 ≡ z → ifUsed t used ≡ Sound → (testOf area d used ≡ Sound) × (0 < used)
-    told (Test.Refused refusal) f z g e = let z : _≡_ {A = ℕ} 0 1 = cc in absurd (omega arith)
-    told Sound f true g e = let h = rw g at e in let z : _≡_ {A = ℕ} 0 1 = cc in absurd (omega arith)
-    told Sound f false g e = (f, omega (arith, tests))
 
 -- ---- the encoding of an entry
 
@@ -90,21 +81,45 @@ encode-says (some content) tx time before after r h e =
     rw (e .answer, e .target)
     (caseB (wellFormed content) (λ q. rw q (put-says content tx time before h q)) (λ q. rw q q))
 
+-- any answer but the first is that of an entry that is not well-formed
+pub encode-refuses : (content : Option Content) (tx time : ℕ) (before after : List ℕ) (r : Encoded) → 612 ≤ length before → EncodeIs content tx time before after r → OneOf (1 ∷ 2 ∷ []) (tagOf the-type r) → isWellFormed content ≡ false
+encode-refuses content tx time before after r h e = by r (encode-says content tx time before after r h e)
+  where
+    by : (r : Encoded) → EncodedAs r content tx time after → OneOf (1 ∷ 2 ∷ []) (tagOf the-type r) → isWellFormed content ≡ false
+    by (Encodes.Written n) s k = absurd (miss (1 ∷ 2 ∷ []) 0 tt k)
+    by Encodes.NotWellFormed s k = s
+    by Encodes.NoRoom s k = absurd s
+
+module _ (m : SegmentManager) (area d : List ℕ) (used lsn : ℕ) (payload : List ℕ) where
+  -- a plan with its test is the test, and then the plan
+  planned : (t : Tested) (p : Plan) → appendAs (planAfter t p) m area d lsn payload ≡ ifTested t m area d (appendAs p m area d lsn payload)
+  planned (Test.Refused refusal) p = refl
+  planned Sound p = refl
+
+  pub entry-planned : appendAs (planAppendOf (m .«max_segment_size») (length area) d used (length payload)) m area d lsn payload ≡ appendEntryOf m area d used lsn payload
+  unfolding planAppendOf appendEntryOf writtenOf
+  entry-planned = planned (appendTestOf (length area) d used) (planOf (m .«max_segment_size») (length area) d used (length payload))
+
 module _ (m : SegmentManager) (area d : List ℕ) (used lsn tx time : ℕ) where
-  pub content-written : (content : Option Content) (bytes : List ℕ) → PayloadIs content tx time bytes → contentOf content m area d used lsn tx time ≡ writtenOf m area d used lsn bytes
-  unfolding contentOf
-  content-written none bytes p = absurd p
-  content-written (some content) bytes p = rw (p .0, p .1)
-
-  pub content-refused : (content : Option Content) → isWellFormed content ≡ false → contentOf content m area d used lsn tx time ≡ refusedAs InvalidEntry m area d
-  unfolding contentOf
-  content-refused none e = refl
-  content-refused (some content) e = rw e
-
   -- the entry call is the raw call on the entry's encoding
   pub entry-is-raw : (content : Content) → wellFormed content ≡ true → appendOf m area d used lsn tx time (some content) ≡ appendEntryOf m area d used lsn (payloadOf tx time content)
   unfolding appendOf appendEntryOf contentOf
   entry-is-raw content e = rw e
+
+  pub entry-written : (content : Option Content) (bytes : List ℕ) → PayloadIs content tx time bytes → appendEntryOf m area d used lsn bytes ≡ appendOf m area d used lsn tx time content
+  entry-written none bytes p = absurd p
+  entry-written (some content) bytes p = rw (p .1) (sym (entry-is-raw content (p .0)))
+
+  -- else it is refused, by the lowest number
+  lowest : (t : Tested) (content : Option Content) → isWellFormed content ≡ false → refusedAs (lowestOf t InvalidEntry) m area d ≡ ifTested t m area d (contentOf content m area d used lsn tx time)
+  unfolding contentOf
+  lowest (Test.Refused refusal) content e = refl
+  lowest Sound none e = refl
+  lowest Sound (some content) e = rw e
+
+  pub entry-not-written : (content : Option Content) → isWellFormed content ≡ false → refusedAs (lowestOf (appendTestOf (length area) d used) InvalidEntry) m area d ≡ appendOf m area d used lsn tx time content
+  unfolding appendOf
+  entry-not-written content e = lowest (appendTestOf (length area) d used) content e
 
 -- ---- the images
 

@@ -1,4 +1,3 @@
-pub mod Plan
 pub mod Answer
 pub mod Writing
 pub mod Examples

@@ -1,7 +1,7 @@
 -- Document 01, "Writing": what each call of the writer answers, and what state, directory and area it leaves.
 -- Assumes nothing.
 use mathlib.Core.Bool.{Bool, cond}
-use mathlib.Core.List.{List, _++_}
+use mathlib.Core.List.{List}
 use mathlib.Core.Option.{Option, none, some}
 use Prim.Native.Nat.{ℕ, _+_, _*_, _%_, _^_}
 use lib.Dec.{eqb}
@@ -17,17 +17,17 @@ use Rattle.directory.specs.declared.rule.Tested.{Tested}
 use Rattle.directory.specs.declared.rule.Tested.the-variants.{Sound}
 use Rattle.directory.specs.declared.rule.Tested.the-variants as Test
 use Rattle.segment.specs.Answer.{Answer, refused, counts, written, openedAs, appendedAs}
-use Rattle.segment.specs.Plan.{newSegmentOf, appendTestOf, planOf}
+use Rattle.plan.specs.Plan.{newSegmentOf, appendTestOf, planOf}
 use Rattle.segment.specs.declared.SegmentManager.{SegmentManager}
 use Rattle.segment.specs.declared.Opening.{Opening}
 use Rattle.segment.specs.declared.Appended.the-variants as Appends
 use Rattle.segment.specs.declared.Appending.{Appending}
-use Rattle.segment.specs.declared.plan.NewSegment.{NewSegment}
-use Rattle.segment.specs.declared.plan.NewSegment.the-variants.{Record}
-use Rattle.segment.specs.declared.plan.NewSegment.the-variants as New
-use Rattle.segment.specs.declared.plan.Plan.{Plan}
-use Rattle.segment.specs.declared.plan.Plan.the-variants.{Write}
-use Rattle.segment.specs.declared.plan.Plan.the-variants as Planned
+use Rattle.plan.specs.declared.NewSegment.{NewSegment}
+use Rattle.plan.specs.declared.NewSegment.the-variants.{Record}
+use Rattle.plan.specs.declared.NewSegment.the-variants as New
+use Rattle.plan.specs.declared.Plan.{Plan}
+use Rattle.plan.specs.declared.Plan.the-variants.{Write}
+use Rattle.plan.specs.declared.Plan.the-variants as Planned
 
 -- "A new segment sets all three to 0"
 abbrev pub fresh : ℕ → SegmentManager
@@ -79,6 +79,11 @@ appended r area directory =
 -- "Every refusal leaves the directory, area, writer state .. unchanged."
 abbrev pub refusing : SegmentManager → Refusal → Appending
 refusing m refusal = record { manager = m; answer = Appends.Refused refusal }
+
+-- "The lowest number that applies is given": 1 or 2, if the test refuses, before another
+abbrev pub lowestOf : Tested → Refusal → Refusal
+lowestOf (Test.Refused lower) refusal = lower
+lowestOf Sound refusal = refusal
 
 abbrev pub refusedAs : Refusal → SegmentManager → List ℕ → List ℕ → Log
 refusedAs refusal m area directory = appended (refusing m refusal) area directory

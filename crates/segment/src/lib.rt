@@ -1,6 +1,4 @@
 // The writer. Its state goes in by value and comes back beside the answer; area and directory are lent.
-mod plan;
-
 use directory::rule::Tested;
 use header::WalEntryHeader;
 use payload::Encoded;
@@ -11,11 +9,11 @@ use refusal::Refusal;
 ghost use mathlib.Core.Path.{_≡_};
 ghost use Prim.Native.Nat.{_+_, _<_, _≤_};
 ghost use lib.ListN.{length};
-ghost use Rattle.directory.specs.Rule.{testOf};
-ghost use Rattle.directory.specs.declared.rule.Tested.the-variants.{Sound};
+ghost use Rattle.refusal.specs.declared.Refusal.the-variants.{InvalidEntry};
 ghost use Rattle.payload.specs.Encode.{asked};
-ghost use Rattle.segment.specs.Writing.{fresh, counted, opened, openOf, rotateOf, appended, activeAfter, appendAs, refusedAs, writtenOf, appendEntryOf, contentOf, appendOf};
-ghost use Rattle.segment.specs.declared.plan.Plan.the-variants as Planned;
+ghost use Rattle.plan.specs.Plan.{appendTestOf};
+ghost use Rattle.plan.specs.declared.Plan.the-variants as Planned;
+ghost use Rattle.segment.specs.Writing.{fresh, counted, opened, openOf, rotateOf, appended, refusing, lowestOf, activeAfter, appendAs, appendEntryOf, appendOf};
 
 pub struct SegmentManager {
     pub max_segment_size: u64,
@@ -47,18 +45,13 @@ pub struct Appending {
     pub answer: Appended,
 }
 
-// "Every refusal leaves the directory, area, writer state .. unchanged": both are lent here so that the promise says so.
-fn refused(
-    manager: SegmentManager,
-    area: &mut [u8],
-    directory: &mut [u8],
-    refusal: Refusal,
-) -> Appending
-    ensures { λ r. ⌜ appended r (now (area .exit)) (now (directory .exit)) ≡ refusedAs refusal manager (now (area .entry)) (now (directory .entry)) ⌝ }
+// 3, unless 1 or 2 applies: the lowest number is given.
+fn not_well_formed(area_len: usize, directory: &[u8], used: usize) -> Refusal
+    ensures { λ r. ⌜ r ≡ lowestOf (appendTestOf «area_len» (now (directory .entry)) used) InvalidEntry ⌝ }
 {
-    Appending {
-        manager,
-        answer: Appended::Refused(refusal),
+    match plan::append_test(area_len, directory, used) {
+        Tested::Refused(refusal) => refusal,
+        Tested::Sound => Refusal::InvalidEntry,
     }
 }
 
@@ -106,6 +99,16 @@ impl SegmentManager {
         ensures { λ r. ⌜ opened r (now (directory .exit)) ≡ rotateOf self (length (now (area .entry))) (now (directory .entry)) used ⌝ }
     {
         self.open(area, directory, used)
+    }
+
+    // "Every refusal leaves the .. writer state .. unchanged."
+    fn refused(self, refusal: Refusal) -> Appending
+        ensures { λ r. ⌜ r ≡ refusing self refusal ⌝ }
+    {
+        Appending {
+            manager: self,
+            answer: Appended::Refused(refusal),
+        }
     }
 
     // The state of the segment that the entry goes to.
@@ -158,30 +161,6 @@ impl SegmentManager {
         }
     }
 
-    // An append whose buffers passed the tests.
-    fn append_tested(
-        self,
-        area: &mut [u8],
-        directory: &mut [u8],
-        used: usize,
-        lsn: u64,
-        data: &[u8],
-    ) -> Appending
-        requires { ⌜ (testOf (length (now area)) (now directory) used ≡ Sound) × (0 < used) ⌝ }
-        ensures { λ r. ⌜ appended r (now (area .exit)) (now (directory .exit)) ≡ writtenOf self (now (area .entry)) (now (directory .entry)) used lsn (now («data» .entry)) ⌝ }
-    {
-        match plan::plan_append(
-            self.max_segment_size,
-            area.len(),
-            directory,
-            used,
-            data.len(),
-        ) {
-            Plan::Refused(refusal) => refused(self, area, directory, refusal),
-            Plan::Write(w) => self.write(area, directory, w, lsn, data),
-        }
-    }
-
     // The raw call: any payload.
     pub fn append_entry(
         self,
@@ -193,39 +172,19 @@ impl SegmentManager {
     ) -> Appending
         ensures { λ r. ⌜ appended r (now (area .exit)) (now (directory .exit)) ≡ appendEntryOf self (now (area .entry)) (now (directory .entry)) used lsn (now («data» .entry)) ⌝ }
     {
-        match plan::append_test(area.len(), directory, used) {
-            Tested::Refused(refusal) => refused(self, area, directory, refusal),
-            Tested::Sound => self.append_tested(area, directory, used, lsn, data),
+        match plan::plan_append(
+            self.max_segment_size,
+            area.len(),
+            directory,
+            used,
+            data.len(),
+        ) {
+            Plan::Refused(refusal) => self.refused(refusal),
+            Plan::Write(w) => self.write(area, directory, w, lsn, data),
         }
     }
 
-    // The entry of an append whose buffers passed the tests: it is tested before 4 and 5.
-    fn append_asked(
-        self,
-        area: &mut [u8],
-        directory: &mut [u8],
-        used: usize,
-        lsn: u64,
-        kind: u64,
-        tx_id: u64,
-        timestamp: u64,
-        key: &[u8],
-        old_value: &[u8],
-        new_value: &[u8],
-    ) -> Appending
-        requires { ⌜ (testOf (length (now area)) (now directory) used ≡ Sound) × (0 < used) ⌝ }
-        ensures { λ r. ⌜ appended r (now (area .exit)) (now (directory .exit)) ≡ contentOf (asked kind (now (key .entry)) (now («old_value» .entry)) (now («new_value» .entry))) self (now (area .entry)) (now (directory .entry)) used lsn «tx_id» timestamp ⌝ }
-    {
-        // The longest payload of a well-formed entry: `NoRoom` is never answered.
-        let mut data = [0u8; 612];
-        match payload::encode(kind, tx_id, timestamp, key, old_value, new_value, &mut data) {
-            Encoded::Written(n) => self.append_tested(area, directory, used, lsn, &data[..n]),
-            Encoded::NotWellFormed => refused(self, area, directory, Refusal::InvalidEntry),
-            Encoded::NoRoom => refused(self, area, directory, Refusal::InvalidEntry),
-        }
-    }
-
-    // The entry call. Buffers and directory are tested before the entry.
+    // The entry call: the raw call on the entry's encoding, if the entry is well-formed.
     pub fn append(
         self,
         area: &mut [u8],
@@ -241,20 +200,13 @@ impl SegmentManager {
     ) -> Appending
         ensures { λ r. ⌜ appended r (now (area .exit)) (now (directory .exit)) ≡ appendOf self (now (area .entry)) (now (directory .entry)) used lsn «tx_id» timestamp (asked kind (now (key .entry)) (now («old_value» .entry)) (now («new_value» .entry))) ⌝ }
     {
-        match plan::append_test(area.len(), directory, used) {
-            Tested::Refused(refusal) => refused(self, area, directory, refusal),
-            Tested::Sound => self.append_asked(
-                area,
-                directory,
-                used,
-                lsn,
-                kind,
-                tx_id,
-                timestamp,
-                key,
-                old_value,
-                new_value,
-            ),
+        // The longest payload of a well-formed entry: `NoRoom` is never answered.
+        let mut data = [0u8; 612];
+        match payload::encode(kind, tx_id, timestamp, key, old_value, new_value, &mut data) {
+            Encoded::Written(n) => self.append_entry(area, directory, used, lsn, &data[..n]),
+            Encoded::NotWellFormed | Encoded::NoRoom => {
+                self.refused(not_well_formed(area.len(), directory, used))
+            }
         }
     }
 }

@@ -19,7 +19,7 @@ use Rattle.directory.specs.Image.{segmentBytes}
 use Rattle.directory.specs.Lent.{fitsOf}
 use Rattle.directory.specs.Record.{recordAt, recordBytes, recordsOf}
 use Rattle.directory.specs.Rule.{liesOf, followsOf, ruleFrom, directoryRule, testOf}
-use Rattle.scan.specs.Step.{judgeWith, stepFrom}
+use Rattle.scan.specs.Step.{judgeOf, stepFrom}
 use Rattle.scan.specs.Walk.{walk, walkFrom}
 use Rattle.scan.specs.Read.{readFrom, readSegment}
 use Rattle.lists.specs.Entries.{entryRecordBytes, highestIn}
@@ -57,5 +57,5 @@ record Examples : Type 0 where
   one : replayOne 321 [] ≡ record { answer = refused 1; entries = replicate 128 5; transactions = replicate 48 6; table = replicate 321 7 }
 
 examples : Examples
-unfolding replayOne imageOf replayOf runOf applyOf changedBy replayed replayOrder committedOf entriesInTurn entriesOf payloadIn contentAt setIn fits set removeKey remove compareBytes markedBytes padded dense bytesOf entryRecordBytes transactionBytes recoverOf listsTestOf testOf fitsOf directoryRule ruleFrom followsOf liesOf recordsOf recordAt recordBytes readLog segmentBytes readInto fullOf transactionsOf noteAll note put compareNumbers noted begun recoveredOf statsOf tallyOf highestIn nextOf entryBytes payloadOf fixedBytes partBytes headerBytes headerOf leBytes readSegment readFrom walkFrom walk stepFrom judgeWith headerAt validFor leOf crc32Of register byteStep bitSteps bitStep decodeOf byKind insertAt updateAt deleteAt keyAt partAt isUtf8 completes any after Utf8.begun utf8-char utf8-1 utf8-2 utf8-3 utf8-4 tail
+unfolding replayOne imageOf replayOf runOf applyOf changedBy replayed replayOrder committedOf entriesInTurn entriesOf payloadIn contentAt setIn fits set removeKey remove compareBytes markedBytes padded dense bytesOf entryRecordBytes transactionBytes recoverOf listsTestOf testOf fitsOf directoryRule ruleFrom followsOf liesOf recordsOf recordAt recordBytes readLog segmentBytes readInto fullOf transactionsOf noteAll note put compareNumbers noted begun recoveredOf statsOf tallyOf highestIn nextOf entryBytes payloadOf fixedBytes partBytes headerBytes headerOf leBytes readSegment readFrom walkFrom walk stepFrom judgeOf headerAt validFor leOf crc32Of register byteStep bitSteps bitStep decodeOf byKind insertAt updateAt deleteAt keyAt partAt isUtf8 completes any after Utf8.begun utf8-char utf8-1 utf8-2 utf8-3 utf8-4 tail
 examples = record { overlap = refl; nine = refl; one = refl }

@@ -7,20 +7,13 @@ use recovery::Recovery;
 use refusal::Refusal;
 use table::Set;
 ghost use mathlib.Core.Path.{_≡_};
-ghost use lib.ListN.{length, replicate};
+ghost use lib.ListN.{length};
 ghost use Rattle.refusal.specs.Number.{numberOf};
 ghost use Rattle.store.specs.Replay.{replaying, refusedEmpty, tableAfter, replayOf};
 ghost use Rattle.store.specs.Running.{Listing, RanIs, concludedAs};
 
 mod apply;
 mod transactions;
-
-// Replay empties the table, whatever it held.
-fn empty(held: &mut [u8])
-    ensures { λ _. ⌜ now (held .exit) ≡ replicate (length (now (held .entry))) 0 ⌝ }
-{
-    fields::bytes::clear(held);
-}
 
 // What a refused recovery makes of the table: 1 and 2 change nothing, 6 and 7 leave it zero as they leave the lists.
 fn leave_table(refusal: Refusal, table: &mut [u8])
@@ -44,7 +37,7 @@ fn replay(
     requires { ⌜ Listing (now area) (now entries) n (now transactions) m ⌝ }
     ensures { λ r. ⌜ RanIs (now (area .entry)) (now (entries .entry)) n (now (transactions .entry)) (length (now (table .entry))) r (now (entries .exit)) (now (transactions .exit)) (now (table .exit)) ⌝ }
 {
-    empty(table);
+    fields::bytes::clear(table);
     chains::chain::link(entries, n, transactions, m);
     let listed = EntryRecord::SIZE * n;
     let begun = TransactionRecord::SIZE * m;

@@ -10,7 +10,7 @@ use Rattle.header.specs.Header.{headerOf, headerBytes, entryBytes, headerAt, va
 use Rattle.payload.specs.Kind.{byKind}
 use Rattle.payload.specs.Content.{commit, fixedBytes, payloadOf}
 use Rattle.entry.specs.Decode.{decodeOf}
-use Rattle.scan.specs.Step.{judgeWith, stepFrom}
+use Rattle.scan.specs.Step.{judgeOf, stepFrom}
 use Rattle.scan.specs.Walk.{walk, walkFrom}
 use Rattle.scan.specs.Highest.{highestFrom, highestOf}
 use Rattle.records.specs.Dense.{bytesOf}
@@ -44,7 +44,7 @@ last = at 4 66 33
 
 -- "0 < m < checkpoint": by 5 the first stays, and by 8 the second; the last stays whatever its number
 by-checkpoint : map (λ c. keptOf three c (first ∷ second ∷ last ∷ [])) (0 ∷ 5 ∷ 6 ∷ 8 ∷ 9 ∷ []) ≡ (first ∷ second ∷ last ∷ []) ∷ (first ∷ second ∷ last ∷ []) ∷ (second ∷ last ∷ []) ∷ (second ∷ last ∷ []) ∷ (last ∷ []) ∷ []
-unfolding three commits entryBytes payloadOf fixedBytes headerBytes headerOf leBytes keptOf segmentBytes highestOf highestFrom walkFrom walk stepFrom judgeWith headerAt validFor leOf crc32Of register byteStep bitSteps bitStep decodeOf byKind
+unfolding three commits entryBytes payloadOf fixedBytes headerBytes headerOf leBytes keptOf segmentBytes highestOf highestFrom walkFrom walk stepFrom judgeOf headerAt validFor leOf crc32Of register byteStep bitSteps bitStep decodeOf byKind
 by-checkpoint = refl
 
 -- "The kept records close up in order, the freed ones become zero, and the answer is their number." The unused record behind
@@ -53,15 +53,15 @@ directory : List ℕ
 directory = recordBytes first ++ (recordBytes second ++ (recordBytes last ++ recordBytes (at 9 9 9)))
 
 one-dropped : truncateOf three directory 3 6 ≡ record { answer = dropped 1 2; directory = recordBytes second ++ (recordBytes last ++ (replicate 24 0 ++ recordBytes (at 9 9 9))) }
-unfolding three directory commits entryBytes payloadOf fixedBytes headerBytes headerOf leBytes keptOf segmentBytes highestOf highestFrom walkFrom walk stepFrom judgeWith headerAt validFor leOf crc32Of register byteStep bitSteps bitStep decodeOf byKind truncateOf testOf fitsOf directoryRule ruleFrom followsOf liesOf recordsOf recordAt recordBytes closedUp bytesOf
+unfolding three directory commits entryBytes payloadOf fixedBytes headerBytes headerOf leBytes keptOf segmentBytes highestOf highestFrom walkFrom walk stepFrom judgeOf headerAt validFor leOf crc32Of register byteStep bitSteps bitStep decodeOf byKind truncateOf testOf fitsOf directoryRule ruleFrom followsOf liesOf recordsOf recordAt recordBytes closedUp bytesOf
 one-dropped = refl
 
 two-dropped : truncateOf three directory 3 9 ≡ record { answer = dropped 2 1; directory = recordBytes last ++ (replicate 48 0 ++ recordBytes (at 9 9 9)) }
-unfolding three directory commits entryBytes payloadOf fixedBytes headerBytes headerOf leBytes keptOf segmentBytes highestOf highestFrom walkFrom walk stepFrom judgeWith headerAt validFor leOf crc32Of register byteStep bitSteps bitStep decodeOf byKind truncateOf testOf fitsOf directoryRule ruleFrom followsOf liesOf recordsOf recordAt recordBytes closedUp bytesOf
+unfolding three directory commits entryBytes payloadOf fixedBytes headerBytes headerOf leBytes keptOf segmentBytes highestOf highestFrom walkFrom walk stepFrom judgeOf headerAt validFor leOf crc32Of register byteStep bitSteps bitStep decodeOf byKind truncateOf testOf fitsOf directoryRule ruleFrom followsOf liesOf recordsOf recordAt recordBytes closedUp bytesOf
 two-dropped = refl
 
 none-dropped : truncateOf three directory 3 0 ≡ record { answer = dropped 0 3; directory = directory }
-unfolding three directory commits entryBytes payloadOf fixedBytes headerBytes headerOf leBytes keptOf segmentBytes highestOf highestFrom walkFrom walk stepFrom judgeWith headerAt validFor leOf crc32Of register byteStep bitSteps bitStep decodeOf byKind truncateOf testOf fitsOf directoryRule ruleFrom followsOf liesOf recordsOf recordAt recordBytes closedUp bytesOf
+unfolding three directory commits entryBytes payloadOf fixedBytes headerBytes headerOf leBytes keptOf segmentBytes highestOf highestFrom walkFrom walk stepFrom judgeOf headerAt validFor leOf crc32Of register byteStep bitSteps bitStep decodeOf byKind truncateOf testOf fitsOf directoryRule ruleFrom followsOf liesOf recordsOf recordAt recordBytes closedUp bytesOf
 none-dropped = refl
 
 -- a directory of no used records
@@ -85,7 +85,7 @@ keptBefore segment = keptOf segment 10 (at 1 0 (length segment) ∷ at 2 (length
 
 -- "A raw empty payload, then commit 9 ..; the truncation scan finds 9."
 undecodable : keptBefore (entryBytes [] ++ commits 9) ≡ at 2 46 0 ∷ []
-unfolding keptBefore commits entryBytes payloadOf fixedBytes headerBytes headerOf leBytes keptOf segmentBytes highestOf highestFrom walkFrom walk stepFrom judgeWith headerAt validFor leOf crc32Of register byteStep bitSteps bitStep decodeOf byKind
+unfolding keptBefore commits entryBytes payloadOf fixedBytes headerBytes headerOf leBytes keptOf segmentBytes highestOf highestFrom walkFrom walk stepFrom judgeOf headerAt validFor leOf crc32Of register byteStep bitSteps bitStep decodeOf byKind
 undecodable = refl
 
 -- a segment in which nothing is found stays: an empty one, a torn one, and one with a wrong checksum
@@ -94,23 +94,23 @@ unfolding keptBefore keptOf segmentBytes highestOf highestFrom walkFrom walk
 empty = refl
 
 torn : keptBefore (take 32 (commits 9)) ≡ at 1 0 32 ∷ at 2 32 0 ∷ []
-unfolding keptBefore commits entryBytes payloadOf fixedBytes headerBytes headerOf leBytes keptOf segmentBytes highestOf highestFrom walkFrom walk stepFrom judgeWith headerAt validFor leOf crc32Of register byteStep bitSteps bitStep decodeOf byKind
+unfolding keptBefore commits entryBytes payloadOf fixedBytes headerBytes headerOf leBytes keptOf segmentBytes highestOf highestFrom walkFrom walk stepFrom judgeOf headerAt validFor leOf crc32Of register byteStep bitSteps bitStep decodeOf byKind
 torn = refl
 
 wrong-checksum : keptBefore (set (commits 9) 13 4) ≡ at 1 0 33 ∷ at 2 33 0 ∷ []
-unfolding keptBefore commits entryBytes payloadOf fixedBytes headerBytes headerOf leBytes keptOf segmentBytes highestOf highestFrom walkFrom walk stepFrom judgeWith headerAt validFor leOf crc32Of register byteStep bitSteps bitStep decodeOf byKind
+unfolding keptBefore commits entryBytes payloadOf fixedBytes headerBytes headerOf leBytes keptOf segmentBytes highestOf highestFrom walkFrom walk stepFrom judgeOf headerAt validFor leOf crc32Of register byteStep bitSteps bitStep decodeOf byKind
 wrong-checksum = refl
 
 -- what stands before the damage counts, what stands behind it does not
 torn-behind : keptBefore (commits 9 ++ take 12 (commits 11)) ≡ at 2 45 0 ∷ []
-unfolding keptBefore commits entryBytes payloadOf fixedBytes headerBytes headerOf leBytes keptOf segmentBytes highestOf highestFrom walkFrom walk stepFrom judgeWith headerAt validFor leOf crc32Of register byteStep bitSteps bitStep decodeOf byKind
+unfolding keptBefore commits entryBytes payloadOf fixedBytes headerBytes headerOf leBytes keptOf segmentBytes highestOf highestFrom walkFrom walk stepFrom judgeOf headerAt validFor leOf crc32Of register byteStep bitSteps bitStep decodeOf byKind
 torn-behind = refl
 
 wrong-behind : keptBefore (commits 9 ++ (set (commits 9) 13 4 ++ commits 11)) ≡ at 2 99 0 ∷ []
-unfolding keptBefore commits entryBytes payloadOf fixedBytes headerBytes headerOf leBytes keptOf segmentBytes highestOf highestFrom walkFrom walk stepFrom judgeWith headerAt validFor leOf crc32Of register byteStep bitSteps bitStep decodeOf byKind
+unfolding keptBefore commits entryBytes payloadOf fixedBytes headerBytes headerOf leBytes keptOf segmentBytes highestOf highestFrom walkFrom walk stepFrom judgeOf headerAt validFor leOf crc32Of register byteStep bitSteps bitStep decodeOf byKind
 wrong-behind = refl
 
 -- the highest number, in whatever order
 highest-first : keptBefore (commits 10 ++ commits 9) ≡ at 1 0 66 ∷ at 2 66 0 ∷ []
-unfolding keptBefore commits entryBytes payloadOf fixedBytes headerBytes headerOf leBytes keptOf segmentBytes highestOf highestFrom walkFrom walk stepFrom judgeWith headerAt validFor leOf crc32Of register byteStep bitSteps bitStep decodeOf byKind
+unfolding keptBefore commits entryBytes payloadOf fixedBytes headerBytes headerOf leBytes keptOf segmentBytes highestOf highestFrom walkFrom walk stepFrom judgeOf headerAt validFor leOf crc32Of register byteStep bitSteps bitStep decodeOf byKind
 highest-first = refl

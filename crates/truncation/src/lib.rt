@@ -8,7 +8,6 @@ ghost use mathlib.Core.Path.{_≡_};
 ghost use mathlib.Core.Bool.{false, cond};
 ghost use Prim.Native.Nat.{max, _≤_};
 ghost use lib.ListN.{length};
-ghost use Rattle.crc32.specs.ByTable.{tablesOf};
 ghost use Rattle.scan.specs.Walk.{behind};
 ghost use Rattle.scan.specs.Highest.{onHighest, highestOf};
 ghost use Rattle.directory.specs.Image.{segmentBytes};
@@ -57,8 +56,7 @@ fn passed(step: Step, end: Place) -> Place
 }
 
 // The highest number of a segment, 0 where there is none.
-fn read_segment_max_tx_id(tables: &crc32::Tables, segment: &[u8]) -> u64
-    requires { ⌜ now tables ≡ tablesOf ⌝ }
+fn read_segment_max_tx_id(segment: &[u8]) -> u64
     ensures { λ r. ⌜ r ≡ highestOf (now (segment .entry)) ⌝ }
 {
     let end = Place {
@@ -68,7 +66,7 @@ fn read_segment_max_tx_id(tables: &crc32::Tables, segment: &[u8]) -> u64
     let mut max_tx_id = 0;
     let mut at = 0;
     while at < segment.len() {
-        let step = scan::scan_step_by(tables, segment, at);
+        let step = scan::scan_step(segment, at);
         max_tx_id = higher(max_tx_id, tx_id_of(step));
         let payload = passed(step, end);
         at = payload.start + payload.len;
@@ -87,14 +85,8 @@ fn is_below(checkpoint: u64, max_tx_id: u64) -> bool
 }
 
 // The last segment is never dropped: it may be the active one.
-fn is_dropped(
-    tables: &crc32::Tables,
-    area: &[u8],
-    segment: SegmentRecord,
-    last: bool,
-    checkpoint: u64,
-) -> bool
-    requires { ⌜ (now tables ≡ tablesOf) × (endOf segment ≤ length (now area)) ⌝ }
+fn is_dropped(area: &[u8], segment: SegmentRecord, last: bool, checkpoint: u64) -> bool
+    requires { ⌜ endOf segment ≤ length (now area) ⌝ }
     ensures { λ r. ⌜ r ≡ cond last false (isBelow checkpoint (highestOf (segmentBytes (now (area .entry)) segment))) ⌝ }
 {
     if last {
@@ -102,29 +94,20 @@ fn is_dropped(
     }
     let start = segment.start as usize;
     let end = (segment.start + segment.length) as usize;
-    is_below(
-        checkpoint,
-        read_segment_max_tx_id(tables, &area[start..end]),
-    )
+    is_below(checkpoint, read_segment_max_tx_id(&area[start..end]))
 }
 
 // "The kept records close up in order, the freed ones become zero": how many are kept. A record's new place is never behind
 // its old one, so the records that are still to be read stand as they were.
-fn close_up(
-    tables: &crc32::Tables,
-    area: &[u8],
-    directory: &mut [u8],
-    used: usize,
-    checkpoint: u64,
-) -> usize
-    requires { ⌜ (now tables ≡ tablesOf) × (testOf (length (now area)) (now directory) used ≡ Sound) ⌝ }
+fn close_up(area: &[u8], directory: &mut [u8], used: usize, checkpoint: u64) -> usize
+    requires { ⌜ testOf (length (now area)) (now directory) used ≡ Sound ⌝ }
     ensures { λ r. ⌜ (let kept = keptOf (now (area .entry)) checkpoint (recordsOf used (now (directory .entry))) in (r ≡ length kept) × (now (directory .exit) ≡ closedUp (now (directory .entry)) used kept)) ⌝ }
 {
     let mut kept = 0;
     let mut k = 0;
     while k < used {
         let segment = directory::record::record_at(directory, k);
-        if !is_dropped(tables, area, segment, k + 1 == used, checkpoint) {
+        if !is_dropped(area, segment, k + 1 == used, checkpoint) {
             directory::record::put_record(directory, kept, segment);
             kept += 1;
         }
@@ -146,8 +129,7 @@ pub fn truncate_segments_before(
     match directory::rule::test(area.len(), directory, used) {
         Tested::Refused(refusal) => Truncated::Refused(refusal),
         Tested::Sound => {
-            let tables = crc32::tables();
-            let kept = close_up(&tables, area, directory, used, checkpoint);
+            let kept = close_up(area, directory, used, checkpoint);
             let count = used - kept;
             Truncated::Dropped { count, used: kept }
         }

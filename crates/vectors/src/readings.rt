@@ -115,15 +115,14 @@ fn headers(t: Tally) -> Tally {
 
 // Whether data passes for the nine digits. "The version is written and never tested on reading."
 fn is_valid(t: Tally, data: &[u8], wanted: bool) -> Tally {
-    let tables = crc32::tables();
     let header = entry::WalEntryHeader {
         length: 9,
         checksum: 0xcbf4_3926,
         version: 9,
     };
     t.with(header.validate(data) == wanted)
-        .with(header.validate_by(&tables, data) == wanted)
-        .with((entry::WalEntryHeader::new_by(&tables, data).checksum == 0xcbf4_3926) == wanted)
+        .with(entry::WalEntryHeader::from_bytes(&header.to_bytes()).validate(data) == wanted)
+        .with((entry::WalEntryHeader::new(data).checksum == 0xcbf4_3926) == wanted)
 }
 
 fn validity(t: Tally) -> Tally {

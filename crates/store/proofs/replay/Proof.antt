@@ -11,8 +11,8 @@ use borrow.Author.Needs.{needs}
 use Rattle.store.proofs.replay.Statement.{statement}
 use Rattle.store.proofs.replay.Tie as tie
 
-empty-requires : tie.Need-empty-requires
-empty-requires c κs = search needs
+clear-requires : tie.Need-clear-requires
+clear-requires c κs = search needs
 
 link-requires : tie.Need-link-requires
 link-requires c κs = search needs
@@ -36,7 +36,7 @@ slice-aggregate-apply-transactions-2 : tie.Need-slice-aggregate-apply-transactio
 slice-aggregate-apply-transactions-2 c = sym (length-take-le _ _ (omega (arith, c .before .before .before .before .before .before .before .before .before .before .before .before .before .before .before .before .before .pre .transactions-inside, c .before .before .before .before .before .before .link .kept .1 .1 .0)))
 
 apply-transactions-requires : tie.Need-apply-transactions-requires
-apply-transactions-requires c κs = (lent-linked _ _ _ _ _ (c .before .before .before .before .before .before .before .before .before .before .before .before .before .before .before .before .before .before .pre) _ _ (c .before .before .before .before .before .before .before .link .ensures), c .before .before .before .before .before .before .before .before .before .before .before .before .empty .ensures ∙ ap (λ (v : ℕ). replicate v 0) (sym (c .before .before .before .before .before .before .before .before .before .before .before .before .empty .kept .0)))
+apply-transactions-requires c κs = (lent-linked _ _ _ _ _ (c .before .before .before .before .before .before .before .before .before .before .before .before .before .before .before .before .before .before .pre) _ _ (c .before .before .before .before .before .before .before .link .ensures), c .before .before .before .before .before .before .before .before .before .before .before .before .clear .ensures ∙ ap (λ (v : ℕ). replicate v 0) (sym (c .before .before .before .before .before .before .before .before .before .before .before .before .clear .kept .0)))
 
 unlink-requires : tie.Need-unlink-requires
 unlink-requires c κs = search needs
@@ -56,14 +56,14 @@ returns c =
     record {
       entries-stay = ap (λ (v : Lent). v .entries) u;
       transactions-stay = ap (λ (v : Lent). v .transactions) u;
-      runs = lent-ran _ _ _ _ _ (c .before .before .before .before .before .before .before .before .before .before .before .before .before .before .before .before .before .before .before .before .before .before .before .before .before .before .before .before .pre) _ _ (c .before .before .before .before .before .before .before .before .before .before .before .before .before .before .before .before .before .link .ensures) _ _ (c .before .before .before .before .before .before .before .before .before .before .before .before .before .before .before .before .before .before .before .before .before .before .empty .kept .0) _ (c .before .before .before .before .before .before .before .before .before .apply-transactions .ensures);
+      runs = lent-ran _ _ _ _ _ (c .before .before .before .before .before .before .before .before .before .before .before .before .before .before .before .before .before .before .before .before .before .before .before .before .before .before .before .before .pre) _ _ (c .before .before .before .before .before .before .before .before .before .before .before .before .before .before .before .before .before .link .ensures) _ _ (c .before .before .before .before .before .before .before .before .before .before .before .before .before .before .before .before .before .before .before .before .before .before .clear .kept .0) _ (c .before .before .before .before .before .before .before .before .before .apply-transactions .ensures);
     }
 
 pub replay-spec : {M : Type 1} → statement M
 replay-spec =
     tie.close
     (tie.spec
-    empty-requires
+    clear-requires
     link-requires
     mul-listed
     mul-begun

@@ -13,10 +13,10 @@ use Rattle.truncation.proofs.close_up.Statement.{statement}
 use Rattle.truncation.proofs.close_up.Tie as tie
 
 abbrev Inv-loop : tie.InvT-loop
-Inv-loop tables area directory₀ used checkpoint kept₀ k₀ directory kept k = Closing area directory₀ used checkpoint directory kept k
+Inv-loop area directory₀ used checkpoint kept₀ k₀ directory kept k = Closing area directory₀ used checkpoint directory kept k
 
 abbrev μ-loop : tie.MeasureT-loop
-μ-loop tables area directory₀ used checkpoint kept₀ k₀ directory kept k = used - k
+μ-loop area directory₀ used checkpoint kept₀ k₀ directory kept k = used - k
 
 loop-holds : tie.Need-loop-holds Inv-loop μ-loop
 loop-holds c = closing-start _ _ _ _
@@ -31,7 +31,7 @@ is-dropped-requires : tie.Need-is-dropped-requires Inv-loop μ-loop
 is-dropped-requires c κs =
     let p = c .before .before .before .before .before .before .pre in
     let l = c .before .before .before .loop in
-    (p .0, rw (c .record-at .ensures, l .inv .unread) (sound-ends _ _ _ (p .1) (l .k) (omega arith)))
+    rw (c .record-at .ensures, l .inv .unread) (sound-ends _ _ _ p (l .k) (omega arith))
 
 put-record-requires : tie.Need-put-record-requires Inv-loop μ-loop
 put-record-requires c κs = search needs
@@ -59,10 +59,10 @@ sub-freed : tie.Need-sub-freed Inv-loop μ-loop
 sub-freed c = omega arith
 
 mul-freed : tie.Need-mul-freed Inv-loop μ-loop
-mul-freed c = omega (arith, sound-says _ _ _ (c .before .before .before .before .pre .1))
+mul-freed c = omega (arith, sound-says _ _ _ (c .before .before .before .before .pre))
 
 mul-zero : tie.Need-mul-zero Inv-loop μ-loop
-mul-zero c = omega (arith, sound-says _ _ _ (c .before .before .before .before .before .pre .1))
+mul-zero c = omega (arith, sound-says _ _ _ (c .before .before .before .before .before .pre))
 
 zero-requires : tie.Need-zero-requires Inv-loop μ-loop
 zero-requires c κs = search needs

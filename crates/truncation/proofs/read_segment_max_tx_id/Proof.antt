@@ -5,26 +5,24 @@ use mathlib.Core.Path.{_≡_, sym, _∙_}
 use Prim.Native.Nat.{max, _-_}
 use native.Mathlib.Omega.{arith}
 use lib.ListN.{length}
-use Rattle.scan.specs.Step.{stepAt}
 use Rattle.scan.specs.Highest.{highestFrom, highestOf}
-use Rattle.scan.proofs.Steps.{step-by-true}
 use Rattle.truncation.proofs.Scans.{highest-past, Passing, passing}
 use borrow.Author.Needs.{needs}
 use Rattle.truncation.proofs.read_segment_max_tx_id.Statement.{statement}
 use Rattle.truncation.proofs.read_segment_max_tx_id.Tie as tie
 
 abbrev Inv-loop : tie.InvT-loop
-Inv-loop tables segment end max-tx-id₀ at₀ max-tx-id at = max max-tx-id (highestFrom segment at) ≡ highestOf segment
+Inv-loop segment end max-tx-id₀ at₀ max-tx-id at = max max-tx-id (highestFrom segment at) ≡ highestOf segment
 
 abbrev μ-loop : tie.MeasureT-loop
-μ-loop tables segment end max-tx-id₀ at₀ max-tx-id at = length segment - at
+μ-loop segment end max-tx-id₀ at₀ max-tx-id at = length segment - at
 
 loop-holds : tie.Need-loop-holds Inv-loop μ-loop
 unfolding highestOf
 loop-holds c = omega arith
 
-scan-step-by-requires : tie.Need-scan-step-by-requires Inv-loop μ-loop
-scan-step-by-requires c κs = search needs
+scan-step-requires : tie.Need-scan-step-requires Inv-loop μ-loop
+scan-step-requires c κs = search needs
 
 tx-id-of-requires : tie.Need-tx-id-of-requires Inv-loop μ-loop
 tx-id-of-requires c κs = search needs
@@ -35,15 +33,12 @@ higher-requires c κs = search needs
 passed-requires : tie.Need-passed-requires Inv-loop μ-loop
 passed-requires c κs = search needs
 
--- with the true tables the step is the definition's
-passes : (c : tie.After-passed Inv-loop μ-loop) → (let a = c .before .before .before .before .before .before .before .args in let l = c .before .before .before .before .before .loop in Passing (a .segment .now) (l .at) (l .max-tx-id) (c .before .before .before .scan-step-by .result) (c .passed .result))
+passes : (c : tie.After-passed Inv-loop μ-loop) → (let a = c .before .before .before .before .before .before .before .args in let l = c .before .before .before .before .before .loop in Passing (a .segment .now) (l .at) (l .max-tx-id) (c .before .before .before .scan-step .result) (c .passed .result))
 passes c =
     let a = c .before .before .before .before .before .before .before .args in
     let l = c .before .before .before .before .before .loop in
-    let x = c .before .before .before .scan-step-by .result in
-    let e : x ≡ stepAt (a .segment .now) (l .at) =
-    rw (c .before .before .before .before .before .before .before .pre) at (c .before .before .before .scan-step-by .ensures) ∙ step-by-true _ _ (λ i. c .before .before .before .before .before .before .shared-slice-known .given i .fits) in
-    rw (c .passed .ensures) (passing (a .segment .now) (l .at) (l .max-tx-id) (record { start = length (a .segment .now); len = 0 }) (omega arith) (omega arith) x (sym e))
+    let x = c .before .before .before .scan-step .result in
+    rw (c .passed .ensures) (passing (a .segment .now) (l .at) (l .max-tx-id) (record { start = length (a .segment .now); len = 0 }) (omega arith) (omega arith) x (sym (c .before .before .before .scan-step .ensures)))
 
 add-at : tie.Need-add-at Inv-loop μ-loop
 add-at c = omega (arith, passes (c .before))
@@ -67,7 +62,7 @@ read-segment-max-tx-id-spec =
     Inv-loop
     μ-loop
     loop-holds
-    scan-step-by-requires
+    scan-step-requires
     tx-id-of-requires
     higher-requires
     passed-requires

@@ -19,15 +19,12 @@ enum-known-refusal c = search needs
 enum-told : tie.Need-enum-told
 enum-told c = search needs
 
-tables-requires : tie.Need-tables-requires
-tables-requires c κs = search needs
-
 close-up-requires : tie.Need-close-up-requires
-close-up-requires c κs = (c .before .before .tables .ensures, sym (c .before .before .before .before .before .test .ensures) ∙ c .before .before .before .enum-told .given .1)
+close-up-requires c κs = sym (c .before .before .before .test .ensures) ∙ c .before .enum-told .given .1
 
 sub-count : tie.Need-sub-count
 sub-count c =
-    let a = c .before .before .before .before .before .before .before .before .before .before .before .before .args in
+    let a = c .before .before .before .before .before .before .before .before .before .before .args in
     omega (arith, kept-most (a .area .now) (a .checkpoint) (recordsOf (a .used) (a .directory .now)), length-records (a .used) (a .directory .now))
 
 same-length : tie.Need-same-length
@@ -42,7 +39,7 @@ same-length-2 c = search needs
 
 returns-2 : tie.Need-returns-2
 unfolding truncateOf
-returns-2 c = rw (← c .before .before .before .before .before .before .before .before .test .ensures, c .before .before .before .before .before .before .enum-told .given .1, c .before .before .close-up .ensures .0, c .before .before .close-up .ensures .1)
+returns-2 c = rw (← c .before .before .before .before .before .before .test .ensures, c .before .before .before .before .enum-told .given .1, c .before .before .close-up .ensures .0, c .before .before .close-up .ensures .1)
 
 pub truncate-segments-before-spec : {M : Type 1} → statement M
 truncate-segments-before-spec =
@@ -51,7 +48,6 @@ truncate-segments-before-spec =
     test-requires
     enum-known-refusal
     enum-told
-    tables-requires
     close-up-requires
     sub-count
     same-length

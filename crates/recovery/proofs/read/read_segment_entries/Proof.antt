@@ -8,7 +8,7 @@ use lib.ListN.{length}
 use Rattle.scan.specs.Step.{stepAt}
 use Rattle.scan.specs.Read.{readSegment}
 use Rattle.scan.specs.declared.Step.the-variants.{Entry}
-use Rattle.scan.proofs.Steps.{EntryAt, step-by-true, step-entry}
+use Rattle.scan.proofs.Steps.{EntryAt, step-entry}
 use Rattle.recovery.specs.Reach.{reached}
 use Rattle.recovery.proofs.Reaches.{Going, withLists, reach-ended, going-on}
 use Rattle.recovery.proofs.Ends.{not-entry}
@@ -17,17 +17,17 @@ use Rattle.recovery.proofs.read.read_segment_entries.Statement.{stateme
 use Rattle.recovery.proofs.read.read_segment_entries.Tie as tie
 
 abbrev Inv-loop : tie.InvT-loop
-Inv-loop tables segment base entries₀ transactions₀ progress lists₀ at₀ entries transactions lists at =
+Inv-loop segment base entries₀ transactions₀ progress lists₀ at₀ entries transactions lists at =
     Going (reached entries₀ transactions₀ progress) (reached entries transactions (withLists progress lists)) base segment at
 
 abbrev μ-loop : tie.MeasureT-loop
-μ-loop tables segment base entries₀ transactions₀ progress lists₀ at₀ entries transactions lists at = length segment - at
+μ-loop segment base entries₀ transactions₀ progress lists₀ at₀ entries transactions lists at = length segment - at
 
 loop-holds : tie.Need-loop-holds Inv-loop μ-loop
 loop-holds c = record { same = refl; entries = refl; transactions = refl }
 
-scan-step-by-requires : tie.Need-scan-step-by-requires Inv-loop μ-loop
-scan-step-by-requires c κs = search needs
+scan-step-requires : tie.Need-scan-step-requires Inv-loop μ-loop
+scan-step-requires c κs = search needs
 
 enum-known-step : tie.Need-enum-known-step Inv-loop μ-loop
 enum-known-step c = search needs
@@ -45,14 +45,13 @@ returns : tie.Need-returns Inv-loop μ-loop
 unfolding readSegment
 returns c =
     let l = c .before .before .before .loop in
-    let x = c .before .before .scan-step-by .result in
+    let x = c .before .before .scan-step .result in
     let a = c .before .before .before .before .before .before .before .before .args in
-    let e : x ≡ stepAt (a .segment .now) (l .at) = rw (c .before .before .before .before .before .before .before .before .pre .0) at (c .before .before .scan-step-by .ensures) ∙ step-by-true _ _ (λ i. c .before .before .before .before .before .before .before .shared-slice-known .given i .fits) in
-    rw (c .ended .ensures) (sym (reach-ended (l .entries) (l .transactions) (a .progress) (l .lists) (a .base) (a .segment .now) (l .at) x (sym e) (not-entry x (c .before .match .keys2))) ∙ l .inv .same)
+    rw (c .ended .ensures) (sym (reach-ended (l .entries) (l .transactions) (a .progress) (l .lists) (a .base) (a .segment .now) (l .at) x (sym (c .before .before .scan-step .ensures)) (not-entry x (c .before .match .keys2))) ∙ l .inv .same)
 
--- with the true tables the step is the definition's
+-- the step is an entry's
 stepping : (c : tie.After-admit-arg2 Inv-loop μ-loop) → stepAt (c .before .before .before .before .before .before .before .before .before .before .before .args .segment .now) (c .before .before .before .before .before .before .loop .at) ≡ Entry (c .before .before .before .step .given .0 .0) (c .before .before .before .step .given .0 .1 .0)
-stepping c = sym (rw (c .before .before .before .before .before .before .before .before .before .before .before .pre .0) at (c .before .before .before .before .before .scan-step-by .ensures) ∙ step-by-true _ _ (λ i. c .before .before .before .before .before .before .before .before .before .before .shared-slice-known .given i .fits)) ∙ c .before .before .before .step .given .1
+stepping c = sym (c .before .before .before .before .before .scan-step .ensures) ∙ c .before .before .before .step .given .1
 
 stepped : (c : tie.After-admit-arg2 Inv-loop μ-loop) → EntryAt (c .before .before .before .before .before .before .before .before .before .before .before .args .segment .now) (c .before .before .before .before .before .before .loop .at) (c .before .before .before .step .given .0 .0) (c .before .before .before .step .given .0 .1 .0)
 stepped c = step-entry _ _ _ _ (stepping c)
@@ -82,7 +81,7 @@ read-segment-entries-spec =
     Inv-loop
     μ-loop
     loop-holds
-    scan-step-by-requires
+    scan-step-requires
     enum-known-step
     ended-requires
     same-length

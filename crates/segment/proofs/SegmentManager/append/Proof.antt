@@ -1,26 +1,38 @@
--- `SegmentManager::append` meets its contract: refused by the tests, or the entry is looked at.
+-- `SegmentManager::append` meets its contract: by what `encode` answers.
 -- Assumes nothing.
 use mathlib.Core.Path.{sym, _∙_}
-use Rattle.segment.specs.Writing.{appendOf}
-use Rattle.segment.proofs.Logs.{test-says}
+use native.Mathlib.Omega.{arith}
+use lib.Seq.{length-take-le}
+use Rattle.segment.proofs.Logs.{encode-says, encode-refuses, entry-written, entry-not-written}
 use borrow.Author.Needs.{needs}
 use Rattle.segment.proofs.SegmentManager.append.Statement.{statement}
 use Rattle.segment.proofs.SegmentManager.append.Tie as tie
 
-append-test-requires : tie.Need-append-test-requires
-append-test-requires c κs = search needs
+slice-aggregate-encode : tie.Need-slice-aggregate-encode
+slice-aggregate-encode c = search needs
 
-enum-known-refusal : tie.Need-enum-known-refusal
-enum-known-refusal c = search needs
+encode-requires : tie.Need-encode-requires
+encode-requires c κs = search needs
+
+enum-known-n : tie.Need-enum-known-n
+enum-known-n c = search needs
+
+array-share-prefix-data : tie.Need-array-share-prefix-data
+array-share-prefix-data c = (rw (c .before .before .before .n .given .1) at (encode-says _ _ _ _ _ _ (omega arith) (c .before .before .before .before .before .before .encode .ensures))) .0
+
+slice-aggregate-append-entry : tie.Need-slice-aggregate-append-entry
+slice-aggregate-append-entry c =
+    let e = rw (c .before .before .before .before .n .given .1) at (encode-says _ _ _ _ _ _ (omega arith) (c .before .before .before .before .before .before .before .encode .ensures)) in
+    sym (length-take-le _ _ (e .0))
+
+append-entry-requires : tie.Need-append-entry-requires
+append-entry-requires c κs = search needs
+
+not-well-formed-requires : tie.Need-not-well-formed-requires
+not-well-formed-requires c κs = search needs
 
 refused-requires : tie.Need-refused-requires
 refused-requires c κs = search needs
-
-enum-told : tie.Need-enum-told
-enum-told c = search needs
-
-append-asked-requires : tie.Need-append-asked-requires
-append-asked-requires c κs = test-says _ _ _ (sym (c .before .before .before .before .append-test .ensures) ∙ c .before .before .enum-told .given .1)
 
 same-length : tie.Need-same-length
 same-length c = search needs
@@ -29,31 +41,32 @@ same-length-2 : tie.Need-same-length-2
 same-length-2 c = search needs
 
 returns : tie.Need-returns
-unfolding appendOf
-returns c = rw (← c .before .before .before .before .before .before .before .before .before .before .append-test .ensures, c .before .before .before .before .before .before .before .before .refusal .given .1) (c .before .before .before .before .refused .ensures)
+returns c =
+    let e = rw (c .before .before .before .before .before .before .before .before .before .n .given .1) at (encode-says _ _ _ _ _ _ (omega arith) (c .before .before .before .before .before .before .before .before .before .before .before .before .encode .ensures)) in
+    c .before .before .before .before .append-entry .ensures ∙ entry-written _ _ _ _ _ _ _ _ _ (e .1)
 
 same-length-3 : tie.Need-same-length-3
 same-length-3 c = search needs
 
-same-length-4 : tie.Need-same-length-4
-same-length-4 c = search needs
-
 returns-2 : tie.Need-returns-2
-unfolding appendOf
-returns-2 c = rw (← c .before .before .before .before .before .before .before .before .before .append-test .ensures, c .before .before .before .before .before .before .before .enum-told .given .1) (c .before .before .before .before .append-asked .ensures)
+returns-2 c =
+    let e = encode-refuses _ _ _ _ _ _ (omega arith) (c .before .before .before .before .before .encode .ensures) (c .before .before .before .match .keys2) in
+    rw (c .refused .ensures, c .before .not-well-formed .ensures) (entry-not-written _ _ _ _ _ _ _ _ e)
 
 pub append-spec : {M : Type 1} → statement M
 append-spec =
     tie.close
     (tie.spec
-    append-test-requires
-    enum-known-refusal
+    slice-aggregate-encode
+    encode-requires
+    enum-known-n
+    array-share-prefix-data
+    slice-aggregate-append-entry
+    append-entry-requires
+    not-well-formed-requires
     refused-requires
-    enum-told
-    append-asked-requires
     same-length
     same-length-2
     returns
     same-length-3
-    same-length-4
     returns-2)

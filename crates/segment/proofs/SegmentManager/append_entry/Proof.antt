@@ -1,14 +1,14 @@
--- `SegmentManager::append_entry` meets its contract: refused by the tests, or written by the plan.
+-- `SegmentManager::append_entry` meets its contract: refused or written, as the plan says.
 -- Assumes nothing.
 use mathlib.Core.Path.{sym, _∙_}
-use Rattle.segment.specs.Writing.{appendEntryOf}
-use Rattle.segment.proofs.Logs.{test-says}
+use Rattle.plan.proofs.Plans.{append-fits}
+use Rattle.segment.proofs.Logs.{entry-planned}
 use borrow.Author.Needs.{needs}
 use Rattle.segment.proofs.SegmentManager.append_entry.Statement.{statement}
 use Rattle.segment.proofs.SegmentManager.append_entry.Tie as tie
 
-append-test-requires : tie.Need-append-test-requires
-append-test-requires c κs = search needs
+plan-append-requires : tie.Need-plan-append-requires
+plan-append-requires c κs = search needs
 
 enum-known-refusal : tie.Need-enum-known-refusal
 enum-known-refusal c = search needs
@@ -16,44 +16,43 @@ enum-known-refusal c = search needs
 refused-requires : tie.Need-refused-requires
 refused-requires c κs = search needs
 
-enum-told : tie.Need-enum-told
-enum-told c = search needs
+enum-known-w : tie.Need-enum-known-w
+enum-known-w c = search needs
 
-append-tested-requires : tie.Need-append-tested-requires
-append-tested-requires c κs = test-says _ _ _ (sym (c .before .before .before .before .append-test .ensures) ∙ c .before .before .enum-told .given .1)
+write-requires : tie.Need-write-requires
+write-requires c κs = append-fits _ _ _ _ _ _ (sym (c .before .before .before .before .before .plan-append .ensures) ∙ c .before .before .before .w .given .1)
 
 same-length : tie.Need-same-length
 same-length c = search needs
 
+returns : tie.Need-returns
+returns c =
+    let a = c .before .before .before .before .before .before .before .before .before .args in
+    rw (← entry-planned (a .self) (a .area .now) (a .directory .now) (a .used) (a .lsn) (a .«data» .now), ← c .before .before .before .before .plan-append .ensures, c .before .before .refusal .given .1, c .refused .ensures)
+
 same-length-2 : tie.Need-same-length-2
 same-length-2 c = search needs
-
-returns : tie.Need-returns
-unfolding appendEntryOf
-returns c = rw (← c .before .before .before .before .before .before .before .before .before .before .append-test .ensures, c .before .before .before .before .before .before .before .before .refusal .given .1) (c .before .before .before .before .refused .ensures)
 
 same-length-3 : tie.Need-same-length-3
 same-length-3 c = search needs
 
-same-length-4 : tie.Need-same-length-4
-same-length-4 c = search needs
-
 returns-2 : tie.Need-returns-2
-unfolding appendEntryOf
-returns-2 c = rw (← c .before .before .before .before .before .before .before .before .before .append-test .ensures, c .before .before .before .before .before .before .before .enum-told .given .1) (c .before .before .before .before .append-tested .ensures)
+returns-2 c =
+    let a = c .before .before .before .before .before .before .before .before .before .before .before .before .before .before .before .args in
+    rw (← entry-planned (a .self) (a .area .now) (a .directory .now) (a .used) (a .lsn) (a .«data» .now), ← c .before .before .before .before .before .before .before .before .before .before .plan-append .ensures, c .before .before .before .before .before .before .before .before .w .given .1)
+    (c .before .before .before .before .write .ensures)
 
 pub append-entry-spec : {M : Type 1} → statement M
 append-entry-spec =
     tie.close
     (tie.spec
-    append-test-requires
+    plan-append-requires
     enum-known-refusal
     refused-requires
-    enum-told
-    append-tested-requires
+    enum-known-w
+    write-requires
     same-length
-    same-length-2
     returns
+    same-length-2
     same-length-3
-    same-length-4
     returns-2)

@@ -3,7 +3,7 @@
 use mathlib.Core.Path.{sym, _∙_}
 use native.Mathlib.Omega.{arith}
 use Rattle.segment.specs.Writing.{openOf}
-use Rattle.segment.proofs.Plans.{open-says}
+use Rattle.plan.proofs.Plans.{open-says}
 use Rattle.directory.proofs.Sound.{sound-says}
 use borrow.Author.Needs.{needs}
 use Rattle.segment.proofs.SegmentManager.open.Statement.{statement}
