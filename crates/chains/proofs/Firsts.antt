@@ -11,7 +11,7 @@ use lib.ListN.{length, length-map}
 use Rattle.fields.specs.declared.bytes.Ordering.the-variants.{Less}
 use Rattle.fields.proofs.Cases.{caseB}
 use Rattle.records.specs.Sorted.{compareNumbers, put, recordOf, Before, Ascends}
-use Rattle.records.proofs.Dense.{All}
+use Rattle.records.specs.Dense.{All}
 use Rattle.records.proofs.Sorted.{numbers-order, caseO}
 use Rattle.lists.specs.Transactions.{txNumber, transactionOf}
 use Rattle.lists.specs.Markers.{hasNumber, isThere}

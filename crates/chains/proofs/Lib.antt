@@ -1,3 +1,4 @@
+pub mod Places
 pub mod Turns
 pub mod Last
 pub mod Records

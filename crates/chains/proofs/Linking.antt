@@ -8,27 +8,26 @@ use native.Mathlib.Numerals.{add-one}
 use native.Mathlib.Omega.{arith}
 use lib.ListN.{length, drop, length-append, length-map}
 use lib.Seq.{append-snoc}
-use Rattle.records.specs.Dense.{dense}
+use Rattle.records.specs.Dense.{dense, All}
 use Rattle.records.specs.Sorted.{compareNumbers, placeOf, put, Ascends}
 use Rattle.records.specs.Halving.{foundIn}
 use Rattle.records.specs.declared.Found.{Found}
 use Rattle.records.specs.declared.Found.the-variants.{At, Gap}
-use Rattle.records.proofs.Dense.{All, all-at}
+use Rattle.records.proofs.Dense.{all-at}
 use Rattle.records.proofs.Sorted.{numbers-order, place-at, place-gap}
 use Rattle.records.proofs.Halving.{halve-place}
-use Rattle.lists.specs.Entries.{entryRecordAt, entryRecordBytes}
+use Rattle.lists.specs.Entries.{entryRecordAt, entryRecordBytes, EntryFits}
 use Rattle.lists.specs.Transactions.{transactionAt, transactionBytes, begun, transactionOf, transactionsOf}
 use Rattle.lists.specs.Markers.{isThere}
 use Rattle.lists.specs.Admit.{orderIn}
 use Rattle.lists.specs.declared.entries.EntryRecord.{EntryRecord}
 use Rattle.lists.specs.declared.transactions.TransactionRecord.{TransactionRecord}
-use Rattle.lists.proofs.EntryRecords.{EntryFits}
 use Rattle.lists.proofs.Numbers.{transactions-ascend, transactions-fit, transactions-numbers}
 use Rattle.chains.specs.Chain.{LinkedEntry, LinkedTransaction, linkedEntryBytes, linkedTransactionBytes, firstFrom, linkedFrom, begunBy, linkedEntries, linkedTransactions}
 use Rattle.chains.specs.Link.{Lent, lent, linkAt, linkOne, linkAll}
 use Rattle.chains.proofs.Last.{length-snoc, from-last}
 use Rattle.chains.proofs.Records.{entryTo, transactionTo}
-use Rattle.chains.proofs.Spare.{entry-written, entry-there, transaction-written, transaction-link, transaction-there}
+use Rattle.chains.proofs.Spare.{entries-have, transactions-have, link-written, link-read, entry-there, transaction-there}
 use Rattle.chains.proofs.Firsts.{first-most, has-number, linkedNumber, begunFrom, length-begun, Begun, all-begun, begun-ascends, beginsHere, begun-put}
 use Rattle.chains.proofs.Unlinking.{plain, entries-plain, transactions-plain}
 
@@ -45,7 +44,7 @@ link-standing : (E T : ℕ) (pre : List LinkedEntry) (e : EntryRecord) (post : L
     → linkAt (At j) (lent (dense linkedEntryBytes E (pre ++ (entryTo e 0 ∷ post))) (dense linkedTransactionBytes T (before ++ (l ∷ after)))) k
     ≡ lent (dense linkedEntryBytes E (pre ++ (entryTo e (l .first) ∷ post))) (dense linkedTransactionBytes T (before ++ (transactionTo (l .transaction) (suc k) ∷ after)))
 link-standing E T pre e post before l after k j m n h =
-    rw (← m, ← n, transaction-link T before l after h, entry-written E pre (entryTo e 0) post (l .first), transaction-written T before l after (length pre + 1), add-one)
+    rw (← m, ← n, link-read transactions-have T before l after h, link-written entries-have E pre (entryTo e 0) post (l .first), link-written transactions-have T before l after (length pre + 1), add-one)
 
 module _ (E T : ℕ) (es : List EntryRecord) (fs : All EntryFits es) (small : length es < 2 ^ 56) where
   abbrev ts : List TransactionRecord

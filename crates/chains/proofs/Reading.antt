@@ -7,19 +7,18 @@ use native.Mathlib.Nat.{add-zero, zero-add, mul-zero}
 use native.Mathlib.Omega.{arith}
 use lib.ListN.{length, drop, length-append}
 use lib.Seq.{drop-at}
-use Rattle.records.specs.Dense.{dense, recordsOf}
-use Rattle.records.proofs.Dense.{All, dense-from}
-use Rattle.lists.specs.Entries.{entryRecordAt}
+use Rattle.records.specs.Dense.{dense, recordsOf, All}
+use Rattle.records.proofs.Dense.{dense-from}
+use Rattle.lists.specs.Entries.{entryRecordAt, EntryFits}
 use Rattle.lists.specs.Transactions.{transactionAt, transactionsOf}
 use Rattle.lists.specs.declared.entries.EntryRecord.{EntryRecord}
 use Rattle.lists.specs.declared.transactions.TransactionRecord.{TransactionRecord}
-use Rattle.lists.proofs.EntryRecords.{EntryFits}
 use Rattle.lists.proofs.TransactionRecords.{TransactionFits}
 use Rattle.lists.proofs.Numbers.{transactions-fit}
 use Rattle.chains.specs.Chain.{LinkedEntry, linkedEntryBytes, linkedTransactionBytes, firstFrom, linkedFrom, begunBy, linkedEntries, linkedTransactions}
-use Rattle.chains.specs.Link.{entryLink, transactionLink}
+use Rattle.chains.specs.Link.{spareAt}
 use Rattle.chains.proofs.Records.{entryTo, transactionTo, length-linked-entry, length-linked-transaction, linked-entry-back, linked-transaction-back}
-use Rattle.chains.proofs.Spare.{entry-link, entry-there, transaction-link, transaction-there}
+use Rattle.chains.proofs.Spare.{entries-have, transactions-have, link-read, entry-there, transaction-there}
 use Rattle.chains.proofs.Firsts.{first-most, begunFrom, length-begun, Begun, all-begun}
 use Rattle.chains.proofs.Unlinking.{length-linked, linked-are}
 
@@ -50,11 +49,11 @@ module _ (E : ℕ) (es before : List EntryRecord) (e : EntryRecord) (after : Lis
   pub entry-read : EntryFits e → entryRecordAt (drop (32 * length before) (linkedEntries E es)) ≡ e
   entry-read f = rw (linked-split, ← length-before 0 before (e ∷ after)) (entry-there E (linkedBefore 0 before (e ∷ after)) _ _ f)
 
-  pub entry-link-read : length es < 2 ^ 56 → entryLink (linkedEntries E es) (length before) ≡ firstFrom (suc (length before)) (e .«tx_id») after
+  pub entry-link-read : length es < 2 ^ 56 → spareAt 32 25 (linkedEntries E es) (length before) ≡ firstFrom (suc (length before)) (e .«tx_id») after
   entry-link-read h =
       let n : length es ≡ length before + suc (length after) = ap length whole ∙ length-append before (e ∷ after) in
       let f : firstFrom (suc (length before)) (e .«tx_id») after < 2 ^ 56 = omega (arith, first-most (suc (length before)) (e .«tx_id») after) in
-      rw linked-split (rw (length-before 0 before (e ∷ after)) at (entry-link E (linkedBefore 0 before (e ∷ after)) (entryTo e (firstFrom (suc (length before)) (e .«tx_id») after)) (linkedFrom (suc (length before)) after) f))
+      rw linked-split (rw (length-before 0 before (e ∷ after)) at (link-read entries-have E (linkedBefore 0 before (e ∷ after)) (entryTo e (firstFrom (suc (length before)) (e .«tx_id») after)) (linkedFrom (suc (length before)) after) f))
 
 module _ (T : ℕ) (es : List EntryRecord) (before : List TransactionRecord) (t : TransactionRecord) (after : List TransactionRecord) (whole : transactionsOf es ≡ before ++ (t ∷ after)) where
   begun-split : begunBy es (transactionsOf es) ≡ begunFrom 0 es before ++ (transactionTo t (firstFrom 0 (t .«tx_id») es) ∷ begunFrom 0 es after)
@@ -64,10 +63,10 @@ module _ (T : ℕ) (es : List EntryRecord) (before : List TransactionRecord) (t 
   pub transaction-read : TransactionFits t → transactionAt (drop (24 * length before) (linkedTransactions T es)) ≡ t
   transaction-read f = rw (begun-split, ← length-begun 0 es before) (transaction-there T (begunFrom 0 es before) _ _ f)
 
-  pub transaction-link-read : length es < 2 ^ 56 → transactionLink (linkedTransactions T es) (length before) ≡ firstFrom 0 (t .«tx_id») es
+  pub transaction-link-read : length es < 2 ^ 56 → spareAt 24 9 (linkedTransactions T es) (length before) ≡ firstFrom 0 (t .«tx_id») es
   transaction-link-read h =
       let f : firstFrom 0 (t .«tx_id») es < 2 ^ 56 = omega (arith, first-most 0 (t .«tx_id») es) in
-      rw (begun-split, ← length-begun 0 es before) (transaction-link T (begunFrom 0 es before) (transactionTo t (firstFrom 0 (t .«tx_id») es)) (begunFrom 0 es after) f)
+      rw (begun-split, ← length-begun 0 es before) (link-read transactions-have T (begunFrom 0 es before) (transactionTo t (firstFrom 0 (t .«tx_id») es)) (begunFrom 0 es after) f)
 
 -- ---- all the records
 

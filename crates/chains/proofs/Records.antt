@@ -7,11 +7,11 @@ use native.Mathlib.Omega.{arith}
 use lib.ListN.{length, length-append}
 use Rattle.fields.specs.Le.{leBytes, numAt}
 use Rattle.fields.proofs.Numbers.{length-bytes, num-skip, num-within}
-use Rattle.lists.specs.Entries.{entryRecordAt, entryRecordBytes}
+use Rattle.lists.specs.Entries.{entryRecordAt, entryRecordBytes, EntryFits}
 use Rattle.lists.specs.Transactions.{actionNumber, transactionAt, transactionBytes}
 use Rattle.lists.specs.declared.entries.EntryRecord.{EntryRecord}
 use Rattle.lists.specs.declared.transactions.TransactionRecord.{TransactionRecord}
-use Rattle.lists.proofs.EntryRecords.{EntryFits, entry-back}
+use Rattle.lists.proofs.EntryRecords.{entry-back}
 use Rattle.lists.proofs.TransactionRecords.{TransactionFits, transaction-back}
 use Rattle.chains.specs.Chain.{LinkedEntry, LinkedTransaction, linkedEntryBytes, linkedTransactionBytes}
 

@@ -10,10 +10,10 @@ use Rattle.lists.specs.Transactions.{transactionBytes, transactionsOf}
 use Rattle.lists.specs.declared.entries.EntryRecord.{EntryRecord}
 use Rattle.lists.specs.declared.transactions.TransactionRecord.{TransactionRecord}
 use Rattle.chains.specs.Chain.{LinkedEntry, linkedEntryBytes, linkedTransactionBytes, linkedFrom, begunBy, linkedEntries, linkedTransactions}
-use Rattle.chains.specs.Link.{lent, unlinkEntries, unlinkTransactions}
+use Rattle.chains.specs.Link.{lent, unlinkAll}
 use Rattle.chains.proofs.Records.{entryTo, entry-unlinked, transactionTo, transaction-unlinked}
 use Rattle.chains.proofs.Firsts.{length-begun}
-use Rattle.chains.proofs.Spare.{entries-unlinked, transactions-unlinked}
+use Rattle.chains.proofs.Spare.{entries-have, transactions-have, unlinks}
 
 -- ---- links of 0
 
@@ -46,20 +46,20 @@ linked-are i (e ∷ es) = ap (λ (es : List EntryRecord). e ∷ es) (linked-are 
 pub length-linked : (i : ℕ) (es : List EntryRecord) → length (linkedFrom i es) ≡ length es
 length-linked i es = sym (length-map (linkedFrom i es) _) ∙ ap length (linked-are i es)
 
-entries-cleared : (E : ℕ) (es : List EntryRecord) → unlinkEntries (linkedEntries E es) (length es) ≡ dense entryRecordBytes E es
+entries-cleared : (E : ℕ) (es : List EntryRecord) → unlinkAll 32 25 (linkedEntries E es) (length es) ≡ dense entryRecordBytes E es
 entries-cleared E es =
-    ap (unlinkEntries (linkedEntries E es)) (sym (length-linked 0 es))
-    ∙ entries-unlinked E (linkedFrom 0 es)
+    ap (unlinkAll 32 25 (linkedEntries E es)) (sym (length-linked 0 es))
+    ∙ unlinks entries-have E (linkedFrom 0 es)
     ∙ ap (dense linkedEntryBytes E) (sym (map-map _ _ (linkedFrom 0 es)) ∙ ap plain (linked-are 0 es))
     ∙ entries-plain E es
 
-transactions-cleared : (T : ℕ) (es : List EntryRecord) (ts : List TransactionRecord) → unlinkTransactions (dense linkedTransactionBytes T (begunBy es ts)) (length ts) ≡ dense transactionBytes T ts
+transactions-cleared : (T : ℕ) (es : List EntryRecord) (ts : List TransactionRecord) → unlinkAll 24 9 (dense linkedTransactionBytes T (begunBy es ts)) (length ts) ≡ dense transactionBytes T ts
 unfolding begunBy
 transactions-cleared T es ts =
-    ap (unlinkTransactions (dense linkedTransactionBytes T (begunBy es ts))) (sym (length-begun 0 es ts))
-    ∙ transactions-unlinked T (begunBy es ts)
+    ap (unlinkAll 24 9 (dense linkedTransactionBytes T (begunBy es ts))) (sym (length-begun 0 es ts))
+    ∙ unlinks transactions-have T (begunBy es ts)
     ∙ ap (dense linkedTransactionBytes T) (map-map _ _ ts)
     ∙ transactions-plain T ts
 
-pub unlink-is : (E T : ℕ) (es : List EntryRecord) → lent (unlinkEntries (linkedEntries E es) (length es)) (unlinkTransactions (linkedTransactions T es) (length (transactionsOf es))) ≡ lent (dense entryRecordBytes E es) (dense transactionBytes T (transactionsOf es))
+pub unlink-is : (E T : ℕ) (es : List EntryRecord) → lent (unlinkAll 32 25 (linkedEntries E es) (length es)) (unlinkAll 24 9 (linkedTransactions T es) (length (transactionsOf es))) ≡ lent (dense entryRecordBytes E es) (dense transactionBytes T (transactionsOf es))
 unlink-is E T es = rw (entries-cleared E es, transactions-cleared T es (transactionsOf es))

@@ -9,16 +9,16 @@ use lib.Dec.{eqb}
 use lib.ListN.{length, drop}
 use lib.Seq.{append-snoc, drop-at}
 use Rattle.fields.proofs.Cases.{caseB}
-use Rattle.records.proofs.Dense.{All, all-at}
-use Rattle.lists.specs.Entries.{entryRecordAt}
+use Rattle.records.specs.Dense.{All}
+use Rattle.records.proofs.Dense.{all-at}
+use Rattle.lists.specs.Entries.{entryRecordAt, EntryFits}
 use Rattle.lists.specs.Transactions.{transactionAt, transactionsOf}
 use Rattle.lists.specs.declared.entries.EntryRecord.{EntryRecord}
 use Rattle.lists.specs.declared.transactions.TransactionRecord.{TransactionRecord}
-use Rattle.lists.proofs.EntryRecords.{EntryFits}
 use Rattle.lists.proofs.TransactionRecords.{TransactionFits}
 use Rattle.lists.proofs.Numbers.{transactions-fit}
 use Rattle.chains.specs.Chain.{firstFrom, linkedEntries, linkedTransactions, entriesOf, fromLink}
-use Rattle.chains.specs.Link.{entryLink, transactionLink}
+use Rattle.chains.specs.Link.{spareAt}
 use Rattle.chains.proofs.Last.{length-snoc}
 use Rattle.chains.proofs.Reading.{entry-read, entry-link-read, transaction-read, transaction-link-read}
 
@@ -85,8 +85,8 @@ module _ (number : ℕ) where
 -- where a walk begins: at transaction k
 pub record Start (T : ℕ) (es : List EntryRecord) (k : ℕ) (t : TransactionRecord) : Type 0 where
   pub read : transactionAt (drop (24 * k) (linkedTransactions T es)) ≡ t
-  pub walked : fromLink (t .«tx_id») (transactionLink (linkedTransactions T es) k) es ≡ entriesOf (t .«tx_id») es
-  pub leads : Leads (t .«tx_id») (transactionLink (linkedTransactions T es) k) es
+  pub walked : fromLink (t .«tx_id») (spareAt 24 9 (linkedTransactions T es) k) es ≡ entriesOf (t .«tx_id») es
+  pub leads : Leads (t .«tx_id») (spareAt 24 9 (linkedTransactions T es) k) es
 
 pub walk-start : (T : ℕ) (es : List EntryRecord) (before : List TransactionRecord) (t : TransactionRecord) (after : List TransactionRecord) → transactionsOf es ≡ before ++ (t ∷ after) → All EntryFits es → length es < 2 ^ 56 → Start T es (length before) t
 walk-start T es before t after whole fs small =
@@ -102,8 +102,8 @@ walk-start T es before t after whole fs small =
 pub record Turn (E : ℕ) (es : List EntryRecord) (number link : ℕ) : Type 0 where
   pub stands : Stands number (link - 1) es
   pub read : entryRecordAt (drop (32 * (link - 1)) (linkedEntries E es)) ≡ stands .entry
-  pub walked : fromLink number link es ≡ stands .entry ∷ fromLink number (entryLink (linkedEntries E es) (link - 1)) es
-  pub leads : Leads number (entryLink (linkedEntries E es) (link - 1)) es
+  pub walked : fromLink number link es ≡ stands .entry ∷ fromLink number (spareAt 32 25 (linkedEntries E es) (link - 1)) es
+  pub leads : Leads number (spareAt 32 25 (linkedEntries E es) (link - 1)) es
 
 pub walk-turn : (E : ℕ) (es : List EntryRecord) (number link : ℕ) → All EntryFits es → length es < 2 ^ 56 → 0 < link → Leads number link es → Turn E es number link
 walk-turn E es number link fs small h l =
@@ -111,8 +111,8 @@ walk-turn E es number link fs small h l =
     let p = s .place in
     let n : suc (length (s .before)) ≡ link = omega arith in
     let fits = all-at EntryFits (s .before) (s .entry) (s .after) (rw (s .whole) at fs) in
-    let next : entryLink (linkedEntries E es) (link - 1) ≡ firstFrom (suc (length (s .before))) number (s .after) =
-    ap (entryLink (linkedEntries E es)) (sym p)
+    let next : spareAt 32 25 (linkedEntries E es) (link - 1) ≡ firstFrom (suc (length (s .before))) number (s .after) =
+    ap (spareAt 32 25 (linkedEntries E es)) (sym p)
     ∙ entry-link-read E es (s .before) (s .entry) (s .after) (s .whole) small
     ∙ ap (λ (v : ℕ). firstFrom (suc (length (s .before))) v (s .after)) (s .own) in
     record {

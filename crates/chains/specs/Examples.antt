@@ -14,7 +14,7 @@ use Rattle.lists.specs.declared.entries.EntryRecord.{EntryRecord}
 use Rattle.lists.specs.declared.transactions.RecoveryAction.{RecoveryAction}
 use Rattle.lists.specs.declared.transactions.RecoveryAction.the-variants.{Incomplete, Commit, Rollback}
 use Rattle.chains.specs.Chain.{LinkedEntry, LinkedTransaction, linkedEntryBytes, linkedTransactionBytes, firstFrom, linkedFrom, begunBy, linkedEntries, linkedTransactions, entriesOf, fromLink}
-use Rattle.chains.specs.Link.{entryLink, withEntryLink, transactionLink, withTransactionLink, lent, linkOne, linkAll, unlinkEntries, unlinkTransactions}
+use Rattle.chains.specs.Link.{spareAt, withSpare, lent, linkOne, linkAll, unlinkAll}
 
 -- an entry of a number and a kind
 abbrev entry : ℕ → ℕ → EntryRecord
@@ -69,24 +69,24 @@ a-transaction = refl
 
 -- with a record of room behind the used ones
 linked-in-bytes : linkAll (lent (dense entryRecordBytes 224 three) (dense transactionBytes 96 (transactionsOf three))) 3 6 ≡ lent (linkedEntries 224 three) (linkedTransactions 96 three)
-unfolding linkAll linkOne foundIn halved halve orderIn entryLink withEntryLink transactionLink withTransactionLink dense bytesOf linkedEntryBytes linkedTransactionBytes linkedFrom begunBy firstFrom entryRecordBytes entryRecordAt transactionBytes transactionAt transactionsOf noteAll note put begun noted compareNumbers leBytes leOf
+unfolding linkAll linkOne foundIn halved halve orderIn spareAt withSpare dense bytesOf linkedEntryBytes linkedTransactionBytes linkedFrom begunBy firstFrom entryRecordBytes entryRecordAt transactionBytes transactionAt transactionsOf noteAll note put begun noted compareNumbers leBytes leOf
 linked-in-bytes = refl
 
-entries-unlinked : unlinkEntries (linkedEntries 224 three) 6 ≡ dense entryRecordBytes 224 three
-unfolding unlinkEntries withEntryLink dense bytesOf linkedEntryBytes linkedFrom firstFrom entryRecordBytes leBytes
+entries-unlinked : unlinkAll 32 25 (linkedEntries 224 three) 6 ≡ dense entryRecordBytes 224 three
+unfolding unlinkAll withSpare dense bytesOf linkedEntryBytes linkedFrom firstFrom entryRecordBytes leBytes
 entries-unlinked = refl
 
-transactions-unlinked : unlinkTransactions (linkedTransactions 96 three) 3 ≡ dense transactionBytes 96 (transactionsOf three)
-unfolding unlinkTransactions withTransactionLink dense bytesOf linkedTransactionBytes begunBy firstFrom transactionBytes transactionsOf noteAll note put begun noted compareNumbers leBytes
+transactions-unlinked : unlinkAll 24 9 (linkedTransactions 96 three) 3 ≡ dense transactionBytes 96 (transactionsOf three)
+unfolding unlinkAll withSpare dense bytesOf linkedTransactionBytes begunBy firstFrom transactionBytes transactionsOf noteAll note put begun noted compareNumbers leBytes
 transactions-unlinked = refl
 
 -- the transaction of 7 leads to entry 0, and that to entry 2
-first-read : transactionLink (linkedTransactions 96 three) 2 ≡ 1
-unfolding transactionLink dense bytesOf linkedTransactionBytes begunBy firstFrom transactionsOf noteAll note put begun noted compareNumbers leBytes leOf
+first-read : spareAt 24 9 (linkedTransactions 96 three) 2 ≡ 1
+unfolding spareAt dense bytesOf linkedTransactionBytes begunBy firstFrom transactionsOf noteAll note put begun noted compareNumbers leBytes leOf
 first-read = refl
 
-next-read : entryLink (linkedEntries 224 three) 0 ≡ 3
-unfolding entryLink dense bytesOf linkedEntryBytes linkedFrom firstFrom leBytes leOf
+next-read : spareAt 32 25 (linkedEntries 224 three) 0 ≡ 3
+unfolding spareAt dense bytesOf linkedEntryBytes linkedFrom firstFrom leBytes leOf
 next-read = refl
 
 -- an entry whose number has no transaction is left alone, and past the end there is no link
@@ -94,6 +94,11 @@ no-transaction : linkAll (lent (dense entryRecordBytes 32 (entry 7 0 ∷ [])) []
 unfolding linkAll linkOne foundIn halved halve
 no-transaction = refl
 
-past-the-end : entryLink (dense entryRecordBytes 32 (entry 7 0 ∷ [])) 1 ≡ 0
-unfolding entryLink dense bytesOf entryRecordBytes leBytes leOf
+past-the-end : spareAt 32 25 (dense entryRecordBytes 32 (entry 7 0 ∷ [])) 1 ≡ 0
+unfolding spareAt dense bytesOf entryRecordBytes leBytes leOf
 past-the-end = refl
+
+-- records of no bytes begin at the front, all of them
+of-no-bytes : spareAt 0 1 (7 ∷ 2 ∷ 1 ∷ []) 5 ≡ 258
+unfolding spareAt leOf
+of-no-bytes = refl

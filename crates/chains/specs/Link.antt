@@ -11,18 +11,13 @@ use Rattle.records.specs.declared.Found.the-variants.{At, Gap}
 use Rattle.lists.specs.Entries.{entryRecordAt}
 use Rattle.lists.specs.Admit.{orderIn}
 
--- the seven spare bytes of record k
-unfoldable pub entryLink : List ℕ → (k : ℕ) → ℕ
-entryLink entries k = numAt (32 * k + 25) 7 entries
+-- the seven spare bytes of record k, where each record has `size` bytes and they stand at `offset` in it: an entry's at 25 of
+-- 32 bytes, a transaction's at 9 of 24
+unfoldable pub spareAt : (size offset : ℕ) → List ℕ → (k : ℕ) → ℕ
+spareAt size offset s k = numAt (size * k + offset) 7 s
 
-unfoldable pub withEntryLink : List ℕ → (k link : ℕ) → List ℕ
-withEntryLink entries k link = sets entries (32 * k + 25) (leBytes 7 link)
-
-unfoldable pub transactionLink : List ℕ → (k : ℕ) → ℕ
-transactionLink transactions k = numAt (24 * k + 9) 7 transactions
-
-unfoldable pub withTransactionLink : List ℕ → (k link : ℕ) → List ℕ
-withTransactionLink transactions k link = sets transactions (24 * k + 9) (leBytes 7 link)
+unfoldable pub withSpare : (size offset : ℕ) → List ℕ → (k link : ℕ) → List ℕ
+withSpare size offset s k link = sets s (size * k + offset) (leBytes 7 link)
 
 pub record Lent : Type 0 where
   pub entries : List ℕ
@@ -34,7 +29,7 @@ lent entries transactions = record { entries = entries; transactions = transacti
 -- entry k goes before the first entry of its transaction
 abbrev pub linkAt : Found → Lent → (k : ℕ) → Lent
 linkAt (At t) l k =
-    lent (withEntryLink (l .entries) k (transactionLink (l .transactions) t)) (withTransactionLink (l .transactions) t (k + 1))
+    lent (withSpare 32 25 (l .entries) k (spareAt 24 9 (l .transactions) t)) (withSpare 24 9 (l .transactions) t (k + 1))
 linkAt (Gap t) l k = l
 
 unfoldable pub linkOne : Lent → (m k : ℕ) → Lent
@@ -46,10 +41,6 @@ linkAll l m zero = l
 linkAll l m (suc k) = linkAll (linkOne l m k) m k
 
 -- the links of the first n records become 0, from the last to the first
-unfoldable pub unlinkEntries : List ℕ → (n : ℕ) → List ℕ
-unlinkEntries entries zero = entries
-unlinkEntries entries (suc k) = unlinkEntries (withEntryLink entries k 0) k
-
-unfoldable pub unlinkTransactions : List ℕ → (n : ℕ) → List ℕ
-unlinkTransactions transactions zero = transactions
-unlinkTransactions transactions (suc k) = unlinkTransactions (withTransactionLink transactions k 0) k
+unfoldable pub unlinkAll : (size offset : ℕ) → List ℕ → (n : ℕ) → List ℕ
+unlinkAll size offset s zero = s
+unlinkAll size offset s (suc k) = unlinkAll size offset (withSpare size offset s k 0) k

@@ -1,8 +1,10 @@
 // The chains: linked before replay, and taken out again before it returns.
+use lists::entries::EntryRecord;
+use lists::transactions::TransactionRecord;
 use records::Found;
 ghost use mathlib.Core.Path.{_≡_};
 ghost use Prim.Native.Nat.{_+_, _^_, _<_};
-ghost use Rattle.chains.specs.Link.{lent, linkOne, linkAll, unlinkEntries, unlinkTransactions};
+ghost use Rattle.chains.specs.Link.{lent, linkOne, linkAll, unlinkAll};
 
 // Entry k goes before the first entry of its transaction.
 fn link_one(entries: &mut [u8], k: usize, transactions: &mut [u8], m: usize)
@@ -12,9 +14,20 @@ fn link_one(entries: &mut [u8], k: usize, transactions: &mut [u8], m: usize)
     let number = lists::entries::entry_at(entries, k).tx_id;
     match lists::transactions::find(transactions, m, number) {
         Found::At(t) => {
-            let first = crate::links::transaction_link(transactions, t);
-            crate::links::put_entry_link(entries, k, first);
-            crate::links::put_transaction_link(transactions, t, (k + 1) as u64);
+            let first = crate::links::spare(
+                transactions,
+                TransactionRecord::SIZE,
+                TransactionRecord::SPARE,
+                t,
+            );
+            crate::links::put_spare(entries, EntryRecord::SIZE, EntryRecord::SPARE, k, first);
+            crate::links::put_spare(
+                transactions,
+                TransactionRecord::SIZE,
+                TransactionRecord::SPARE,
+                t,
+                (k + 1) as u64,
+            );
         }
         Found::Gap(_) => {}
     }
@@ -31,30 +44,26 @@ pub fn link(entries: &mut [u8], n: usize, transactions: &mut [u8], m: usize)
     }
 }
 
-fn unlink_entries(entries: &mut [u8], n: usize)
-    ensures { λ _. ⌜ now (entries .exit) ≡ unlinkEntries (now (entries .entry)) n ⌝ }
+// The spare bytes of the first n records of a list become zero.
+fn unlink_list(s: &mut [u8], size: usize, offset: usize, n: usize)
+    ensures { λ _. ⌜ now (s .exit) ≡ unlinkAll size offset (now (s .entry)) n ⌝ }
 {
     let mut k = n;
     while 0 < k {
         k -= 1;
-        crate::links::put_entry_link(entries, k, 0);
-    }
-}
-
-fn unlink_transactions(transactions: &mut [u8], m: usize)
-    ensures { λ _. ⌜ now (transactions .exit) ≡ unlinkTransactions (now (transactions .entry)) m ⌝ }
-{
-    let mut k = m;
-    while 0 < k {
-        k -= 1;
-        crate::links::put_transaction_link(transactions, k, 0);
+        crate::links::put_spare(s, size, offset, k, 0);
     }
 }
 
 // The spare bytes of the first n entries and of the first m transactions are zero again.
 pub fn unlink(entries: &mut [u8], n: usize, transactions: &mut [u8], m: usize)
-    ensures { λ _. ⌜ lent (now (entries .exit)) (now (transactions .exit)) ≡ lent (unlinkEntries (now (entries .entry)) n) (unlinkTransactions (now (transactions .entry)) m) ⌝ }
+    ensures { λ _. ⌜ lent (now (entries .exit)) (now (transactions .exit)) ≡ lent (unlinkAll 32 25 (now (entries .entry)) n) (unlinkAll 24 9 (now (transactions .entry)) m) ⌝ }
 {
-    unlink_entries(entries, n);
-    unlink_transactions(transactions, m);
+    unlink_list(entries, EntryRecord::SIZE, EntryRecord::SPARE, n);
+    unlink_list(
+        transactions,
+        TransactionRecord::SIZE,
+        TransactionRecord::SPARE,
+        m,
+    );
 }

@@ -1,46 +1,36 @@
-// The links in the spare bytes of the two lists' records.
-use lists::entries::EntryRecord;
-use lists::transactions::TransactionRecord;
+// The links in the spare bytes of records. Each record has `size` bytes, and its 7 spare ones stand at `offset` in it.
 ghost use mathlib.Core.Path.{_≡_};
-ghost use Rattle.chains.specs.Link.{entryLink, withEntryLink, transactionLink, withTransactionLink};
+ghost use Prim.Native.Nat.{_+_, _*_, min};
+ghost use Rattle.chains.specs.Link.{spareAt, withSpare};
 
-// The link of entry k. Past the list's end it is 0.
-pub fn entry_link(entries: &[u8], k: usize) -> u64
-    ensures { λ r. ⌜ r ≡ entryLink (now (entries .entry)) k ⌝ }
+// Where the spare bytes of record k begin, or the end of `len` bytes if they begin past it.
+fn place(len: usize, size: usize, offset: usize, k: usize) -> usize
+    ensures { λ r. ⌜ r ≡ min (size * k + offset) len ⌝ }
 {
+    if len < offset {
+        return len;
+    }
+    if size == 0 {
+        return offset;
+    }
     // Divided, since k records may be more bytes than a number holds.
-    if entries.len() / EntryRecord::SIZE < k {
-        return 0;
+    if (len - offset) / size < k {
+        return len;
     }
-    fields::get_le(entries, EntryRecord::SIZE * k + 25, 7)
+    size * k + offset
 }
 
-// Past the list's end nothing is written.
-pub fn put_entry_link(entries: &mut [u8], k: usize, link: u64)
-    ensures { λ _. ⌜ now (entries .exit) ≡ withEntryLink (now (entries .entry)) k link ⌝ }
+// The link of record k. Past the end it is 0.
+pub fn spare(s: &[u8], size: usize, offset: usize, k: usize) -> u64
+    ensures { λ r. ⌜ r ≡ spareAt size offset (now (s .entry)) k ⌝ }
 {
-    if entries.len() / EntryRecord::SIZE < k {
-        return;
-    }
-    fields::put_le(entries, EntryRecord::SIZE * k + 25, 7, link);
+    fields::get_le(s, place(s.len(), size, offset, k), 7)
 }
 
-// The link of transaction k. Past the transactions' end it is 0.
-pub fn transaction_link(transactions: &[u8], k: usize) -> u64
-    ensures { λ r. ⌜ r ≡ transactionLink (now (transactions .entry)) k ⌝ }
+// Past the end nothing is written.
+pub fn put_spare(s: &mut [u8], size: usize, offset: usize, k: usize, link: u64)
+    ensures { λ _. ⌜ now (s .exit) ≡ withSpare size offset (now (s .entry)) k link ⌝ }
 {
-    if transactions.len() / TransactionRecord::SIZE < k {
-        return 0;
-    }
-    fields::get_le(transactions, TransactionRecord::SIZE * k + 9, 7)
-}
-
-// Past the transactions' end nothing is written.
-pub fn put_transaction_link(transactions: &mut [u8], k: usize, link: u64)
-    ensures { λ _. ⌜ now (transactions .exit) ≡ withTransactionLink (now (transactions .entry)) k link ⌝ }
-{
-    if transactions.len() / TransactionRecord::SIZE < k {
-        return;
-    }
-    fields::put_le(transactions, TransactionRecord::SIZE * k + 9, 7, link);
+    let at = place(s.len(), size, offset, k);
+    fields::put_le(s, at, 7, link);
 }

@@ -9,7 +9,7 @@ use lib.Dec.{leb}
 use lib.ListN.{length, take, length-append}
 use lib.Seq.{take-nil, take-append-le, take-append-add}
 use Rattle.fields.proofs.Cases.{caseB}
-use Rattle.records.proofs.Dense.{All}
+use Rattle.records.specs.Dense.{All}
 use Rattle.header.specs.Header.{entryBytes}
 use Rattle.segment.proofs.Logs.{entry-length}
 use Rattle.scan.specs.Read.{Reading, nothing, readFrom, readSegment}

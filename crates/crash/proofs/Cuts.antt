@@ -9,14 +9,14 @@ use native.Mathlib.Nat.{sub-zero}
 use native.Mathlib.Omega.{arith}
 use lib.ListN.{length, getD, take, drop, length-append}
 use lib.Seq.{length-sets, take-all, take-length, take-take, take-append-le}
-use Rattle.records.proofs.Dense.{All}
+use Rattle.records.specs.Dense.{All}
 use Rattle.directory.specs.Image.{segmentBytes}
 use Rattle.directory.specs.Record.{recordBytes, recordsOf, endOf}
 use Rattle.directory.specs.Rule.{testOf, ruleFrom, afterRecord}
 use Rattle.directory.specs.declared.record.SegmentRecord.{SegmentRecord}
 use Rattle.directory.specs.declared.rule.Last.{Last}
 use Rattle.directory.specs.declared.rule.Last.the-variants.{NoSegment}
-use Rattle.directory.specs.declared.rule.Tested.the-variants.{Sound}
+use Rattle.refusal.specs.Answer as Answers
 use Rattle.directory.proofs.Records.{length-records, record-of, records-more}
 use Rattle.directory.proofs.Rules.{follows-says, follows-so, rule-parts, rule-keep}
 use Rattle.directory.proofs.Sound.{sound-says, sound-so, sound-ends}
@@ -180,7 +180,7 @@ module _ (log : WrittenLog) (segments : List (List Request)) (laid : Laid log se
       ∙ rw (records-first (held .used) k (held .directory) (omega (arith, is-cut .segment)), laid .records)
 
   -- "recovery is not refused": the directory of the cut log passes the test
-  pub cut-sound : testOf (length area) (cutDirectory (log .held) k n) (k + 1) ≡ Sound
+  pub cut-sound : testOf (length area) (cutDirectory (log .held) k n) (k + 1) ≡ Answers.sound
   unfolding cutDirectory
   cut-sound =
       let d = held .directory in

@@ -10,11 +10,11 @@ use lib.Dec.{leb}
 use lib.ListN.{length, take, drop}
 use lib.Seq.{take-nil, take-take, take-append-seam, drop-drop, drop-append-seam}
 use Rattle.fields.proofs.Cases.{caseB}
-use Rattle.records.proofs.Dense.{All}
+use Rattle.records.specs.Dense.{All}
 use Rattle.header.specs.Header.{headerOf, headerBytes, entryBytes}
 use Rattle.header.proofs.Laws.{header-length}
 use Rattle.segment.proofs.Logs.{entry-length}
-use Rattle.recovery.specs.Log.{payloadIn}
+use Rattle.recovery.specs.Payload.{payloadIn}
 use Rattle.crash.specs.Write.{Request, encoded, Written}
 use Rattle.crash.specs.Kept.{keptBy, listedAs}
 use Rattle.crash.proofs.Laid.{imageOf, writtenFrom, Accepted, Kept}

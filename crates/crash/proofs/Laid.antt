@@ -5,15 +5,15 @@ use mathlib.Core.Path.{_≡_}
 use mathlib.Core.Bool.{true}
 use mathlib.Core.List.{List, [], _∷_, _++_}
 use lib.ListN.{length, take}
-use Rattle.records.proofs.Dense.{All}
+use Rattle.records.specs.Dense.{All}
 use Rattle.header.specs.Header.{entryBytes}
 use Rattle.payload.specs.Encode.{isWellFormed}
 use Rattle.directory.specs.Record.{recordsOf}
 use Rattle.directory.specs.Rule.{testOf}
 use Rattle.directory.specs.declared.record.SegmentRecord.{SegmentRecord}
-use Rattle.directory.specs.declared.rule.Tested.the-variants.{Sound}
+use Rattle.refusal.specs.Answer as Answers
 use Rattle.crash.specs.Write.{Request, askedBy, encoded, Written, WrittenLog, Typed}
-use Rattle.recovery.specs.Log.{payloadIn}
+use Rattle.recovery.specs.Payload.{payloadIn}
 use Rattle.crash.specs.Kept.{listedAs}
 
 -- the bytes of entries, one behind the other
@@ -45,7 +45,7 @@ pub record Accepted (r : Request) : Type 0 where
 
 -- the log lies in segments of these entries
 pub record Laid (log : WrittenLog) (segments : List (List Request)) : Type 0 where
-  pub sound : testOf (length (log .held .area)) (log .held .directory) (log .held .used) ≡ Sound
+  pub sound : testOf (length (log .held .area)) (log .held .directory) (log .held .used) ≡ Answers.sound
   pub records : recordsOf (log .held .used) (log .held .directory) ≡ recordsFrom 1 0 segments
   pub image : take (length (imageOf (together segments))) (log .held .area) ≡ imageOf (together segments)
   pub entries : log .entries ≡ writtenFrom 0 (together segments)

@@ -9,7 +9,7 @@ use native.Mathlib.Nat.{add-zero, zero-add}
 use native.Mathlib.Omega.{arith}
 use borrow.Author.Tests.{lt-ltb}
 use lib.ListN.{length, length-append}
-use Rattle.records.proofs.Dense.{All}
+use Rattle.records.specs.Dense.{All}
 use Rattle.header.specs.Header.{entryBytes}
 use Rattle.directory.specs.Rule.{idAfter, endBefore, ruleFrom}
 use Rattle.directory.specs.declared.record.SegmentRecord.{SegmentRecord}

@@ -10,7 +10,7 @@ use borrow.Author.Tests.{leb-true, leb-false}
 use lib.Dec.{leb}
 use lib.ListN.{length}
 use Rattle.fields.proofs.Cases.{caseB}
-use Rattle.records.proofs.Dense.{All}
+use Rattle.records.specs.Dense.{All}
 use Rattle.recovery.specs.Recover.{recoveredOf, statsOf}
 use Rattle.crash.specs.Write.{Request, encoded, Held, Written, lastWritten, WrittenLog, withFirst, ifAccepted, appendTo, appendAll, openWith, ifOpened, writeLog, Typed}
 use Rattle.crash.specs.Kept.{keptBy, isInside, readUpTo}

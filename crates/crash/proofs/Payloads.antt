@@ -10,14 +10,14 @@ use Rattle.fields.specs.Le.{Bytes, leBytes}
 use Rattle.fields.proofs.Numbers.{bytes-of}
 use Rattle.payload.specs.Kind.{byKind}
 use Rattle.payload.specs.Content.{Content, insert, update, delete, commit, abort, kindNumber, fixedBytes, partBytes, partsBytes, payloadOf, wellFormed}
-use Rattle.payload.specs.Encode.{asked, isWellFormed}
-use Rattle.payload.proofs.Laws.{payload-most}
+use Rattle.payload.specs.Encode.{asked, isWellFormed, payloadFor}
+use Rattle.payload.proofs.Laws.{by-other, payload-most}
 use Rattle.entry.specs.Decode.{decodeOf}
 use Rattle.entry.specs.Parts.{txOf, kindOf}
 use Rattle.entry.specs.declared.WalEntry.{WalEntry}
 use Rattle.entry.specs.declared.decoding.Decoded.the-variants as Decodes
-use Rattle.entry.proofs.RoundTrip.{placed, decode-payload, readable, placed-tx, placed-kind}
-use Rattle.crash.specs.Write.{Request, payloadAs, encoded}
+use Rattle.entry.proofs.RoundTrip.{placed, decode-payload, well-formed-readable, placed-tx, placed-kind}
+use Rattle.crash.specs.Write.{Request, encoded}
 use Rattle.crash.proofs.Laid.{Accepted}
 
 -- ---- bytes
@@ -61,13 +61,13 @@ module _ (tx time : ℕ) (hx : tx < 2 ^ 64) (ht : time < 2 ^ 64) where
         fits = omega (arith, payload-most tx time content e);
         entry = placed tx time content;
         used = length p;
-        decoded = ap decodeOf (sym (append-nil p)) ∙ decode-payload tx time hx ht [] content (readable content e);
+        decoded = ap decodeOf (sym (append-nil p)) ∙ decode-payload tx time hx ht [] content (well-formed-readable content e);
         same-tx = placed-tx tx time content;
         same-kind = placed-kind tx time content;
       }
 
   module _ (key old new : List ℕ) (k : Bytes key) (o : Bytes old) (n : Bytes new) where
-    asked-back : (kind : ℕ) → isWellFormed (asked kind key old new) ≡ true → ReadBack (payloadAs tx time (asked kind key old new)) tx kind
+    asked-back : (kind : ℕ) → isWellFormed (asked kind key old new) ≡ true → ReadBack (payloadFor tx time (asked kind key old new)) tx kind
     unfolding asked byKind
     asked-back zero e = payload-back (insert key new) e (two-bytes key new k n)
     asked-back (suc zero) e =
@@ -76,7 +76,8 @@ module _ (tx time : ℕ) (hx : tx < 2 ^ 64) (ht : time < 2 ^ 64) where
     asked-back (suc (suc zero)) e = payload-back (delete key old) e (two-bytes key old k o)
     asked-back (suc (suc (suc zero))) e = payload-back commit e (λ i. omega arith)
     asked-back (suc (suc (suc (suc zero)))) e = payload-back abort e (λ i. omega arith)
-    asked-back (suc (suc (suc (suc (suc kind))))) e = absurd (false≢true e)
+    asked-back (suc (suc (suc (suc (suc kind))))) e =
+        absurd (false≢true (rw (by-other (suc (suc (suc (suc (suc kind))))) _ _ _ _ _ _ (omega arith)) at e))
 
 pub accepted-back : (r : Request) → Accepted r → ReadBack (encoded r) (r .tx) (r .kind)
 unfolding encoded

@@ -9,50 +9,46 @@ use native.Mathlib.Omega.{arith}
 use borrow.Author.Tests.{le-leb}
 use lib.Dec.{eqb}
 use lib.ListN.{length}
+use Rattle.refusal.specs.Answer.{accepted}
 use Rattle.fields.specs.Order.{compareBytes}
 use Rattle.fields.proofs.Cases.{caseB}
-use Rattle.records.proofs.Dense.{All}
+use Rattle.records.specs.Dense.{All}
 use Rattle.records.proofs.Sorted.{bytes-order, put-all, remove-all, Has, put-has, put-had, Among, no-more}
-use Rattle.payload.specs.Content.{Content, insert, update, delete, commit, abort, payloadOf, wellFormed}
-use Rattle.payload.specs.Encode.{isWellFormed}
+use Rattle.payload.specs.Content.{Content, insert, update, delete, commit, abort, payloadOf}
+use Rattle.payload.specs.Encode.{isWellFormed, payloadFor}
 use Rattle.payload.proofs.Laws.{limits}
 use Rattle.entry.specs.Decode.{decodeOf, contentAt}
 use Rattle.entry.specs.declared.decoding.Decoded.the-variants.{Entry}
-use Rattle.entry.proofs.RoundTrip.{placed, readable, decode-payload, content-payload}
+use Rattle.entry.proofs.RoundTrip.{placed, well-formed-readable, decode-payload, content-payload}
 use Rattle.chains.specs.Chain.{entriesOf}
-use Rattle.recovery.specs.Log.{payloadIn}
+use Rattle.recovery.specs.Payload.{payloadIn}
 use Rattle.table.specs.Row.{Row, rowOf, keyOf, fits}
-use Rattle.table.specs.Table.{Sorted, rows, set, removeKey, setIn}
+use Rattle.table.specs.Table.{Sorted, set, removeKey, setIn}
 use Rattle.table.proofs.Lookups.{set-sorted, remove-sorted}
 use Rattle.store.specs.Order.{replayOrder, entriesInTurn, replayed}
-use Rattle.store.specs.Change.{changedBy, changedAs, applyOf, runOf}
+use Rattle.store.specs.Change.{changedBy, runOf}
+use Rattle.store.specs.Effect.{Effect, puts, drops, keeps, effectOf, effectAt, effectIn}
 use Rattle.store.proofs.Runs.{run-append}
-use Rattle.crash.specs.Write.{askedBy, payloadAs, encoded, Written}
+use Rattle.crash.specs.Write.{askedBy, encoded, Written}
 use Rattle.crash.specs.Kept.{listedAs, listedAll}
-use Rattle.crash.specs.Settings.{settle, runNumber, runNumbers, settingsOf, itself, withKey, keysOf}
+use Rattle.crash.specs.Settings.{effectAs, effectBy, settle, runNumber, runNumbers, settingsOf, itself, withKey, keysOf}
 use Rattle.crash.proofs.Laid.{Kept}
 
 -- ---- the rows stay sorted
 
-pub settle-sorted : (content : Option Content) (rs : List Row) → Sorted rs → Sorted (settle content rs)
+pub settle-sorted : (x : Effect) (rs : List Row) → Sorted rs → Sorted (settle x rs)
 unfolding settle
-settle-sorted (some (insert key value)) rs s = set-sorted _ rs s
-settle-sorted (some (update key old new)) rs s = set-sorted _ rs s
-settle-sorted (some (delete key old)) rs s = remove-sorted _ rs s
-settle-sorted (some commit) rs s = s
-settle-sorted (some abort) rs s = s
-settle-sorted none rs s = s
+settle-sorted (puts key value) rs s = set-sorted _ rs s
+settle-sorted (drops key) rs s = remove-sorted _ rs s
+settle-sorted keeps rs s = s
 
 -- ---- rows of some keys
 
 -- the key that an entry sets is one of these
-abbrev Named : List (List ℕ) → Option Content → Type 0
-Named keys (some (insert key value)) = Has compareBytes itself key keys
-Named keys (some (update key old new)) = Has compareBytes itself key keys
-Named keys (some (delete key old)) = Unit {0}
-Named keys (some commit) = Unit {0}
-Named keys (some abort) = Unit {0}
-Named keys none = Unit {0}
+abbrev Named : List (List ℕ) → Effect → Type 0
+Named keys (puts key value) = Has compareBytes itself key keys
+Named keys (drops key) = Unit {0}
+Named keys keeps = Unit {0}
 
 -- sorted rows, each of one of these keys
 record Keyed (keys : List (List ℕ)) (rs : List Row) : Type 0 where
@@ -74,17 +70,14 @@ module _ (keys : List (List ℕ)) (rs : List Row) (h : Keyed keys rs) where
   unfolding set
   set-named row g = put-all compareBytes keyOf (row .key) (λ (r : Row). row) row IsNamed (λ r f. g) g rs (h .named)
 
-  settle-named : (content : Option Content) → Named keys content → All IsNamed (settle content rs)
+  settle-named : (x : Effect) → Named keys x → All IsNamed (settle x rs)
   unfolding settle removeKey
-  settle-named (some (insert key value)) g = set-named _ g
-  settle-named (some (update key old new)) g = set-named _ g
-  settle-named (some (delete key old)) g = remove-all compareBytes keyOf _ IsNamed rs (h .named)
-  settle-named (some commit) g = h .named
-  settle-named (some abort) g = h .named
-  settle-named none g = h .named
+  settle-named (puts key value) g = set-named _ g
+  settle-named (drops key) g = remove-all compareBytes keyOf _ IsNamed rs (h .named)
+  settle-named keeps g = h .named
 
-  settle-keyed : (content : Option Content) → Named keys content → Keyed keys (settle content rs)
-  settle-keyed content g = record { sorted = settle-sorted content rs (h .sorted); named = settle-named content g }
+  settle-keyed : (x : Effect) → Named keys x → Keyed keys (settle x rs)
+  settle-keyed x g = record { sorted = settle-sorted x rs (h .sorted); named = settle-named x g }
 
 -- ---- an entry applied
 
@@ -92,44 +85,59 @@ row-fits : (key value : List ℕ) → length key ≤ 64 → length value ≤ 252
 unfolding fits
 row-fits key value k v = rw (le-leb (length key) 64 k, le-leb (length value) 252 v)
 
+-- what a row of a table takes
+abbrev Fits : Effect → Type 0
+Fits (puts key value) = (length key ≤ 64) × (length value ≤ 252)
+Fits (drops key) = Unit {0}
+Fits keeps = Unit {0}
+
+effect-fits : (content : Option Content) → isWellFormed content ≡ true → Fits (effectAs content)
+unfolding effectOf
+effect-fits none w = tt
+effect-fits (some (insert key value)) w = limits (insert key value) w
+effect-fits (some (update key old new)) w = let l = limits (update key old new) w in (l .0, l .2)
+effect-fits (some (delete key old)) w = tt
+effect-fits (some commit) w = tt
+effect-fits (some abort) w = tt
+
 module _ (records : ℕ) (keys : List (List ℕ)) (room : length keys ≤ records) (rs : List Row) (h : Keyed keys rs) where
   -- a row that fits finds a record
-  set-settles : (key value : List ℕ) → Has compareBytes itself key keys → length key ≤ 64 → length value ≤ 252 → setIn records (rowOf key value) rs ≡ rows (set (rowOf key value) rs)
+  set-settles : (key value : List ℕ) → Has compareBytes itself key keys → length key ≤ 64 → length value ≤ 252 → setIn records (rowOf key value) rs ≡ accepted (set (rowOf key value) rs)
   unfolding setIn
   set-settles key value g k v =
       let row = rowOf key value in
       let n = few keys (set row rs) (record { sorted = set-sorted row rs (h .sorted); named = set-named keys rs h row g }) in
       rw (row-fits key value k v, le-leb (length (set row rs)) records (omega arith))
 
-  change-settles : (content : Content) → wellFormed content ≡ true → Named keys (some content) → changedBy records content rs ≡ rows (settle (some content) rs)
+  change-settles : (x : Effect) → Fits x → Named keys x → changedBy records x rs ≡ accepted (settle x rs)
   unfolding changedBy settle
-  change-settles (insert key value) w g = let l = limits (insert key value) w in set-settles key value g (l .0) (l .1)
-  change-settles (update key old new) w g = let l = limits (update key old new) w in set-settles key new g (l .0) (l .2)
-  change-settles (delete key old) w g = refl
-  change-settles commit w g = refl
-  change-settles abort w g = refl
+  change-settles (puts key value) f g = set-settles key value g (f .0) (f .1)
+  change-settles (drops key) f g = refl
+  change-settles keeps f g = refl
 
-  -- a payload that was written is read back, and its entry applied
-  payload-settles : (payload : List ℕ) (tx time : ℕ) (content : Option Content) → tx < 2 ^ 64 → time < 2 ^ 64 → isWellFormed content ≡ true → payload ≡ payloadAs tx time content → Named keys content → changedAs records payload (decodeOf payload) rs ≡ rows (settle content rs)
-  payload-settles payload tx time none hx ht w e g = let z : _≡_ {A = ℕ} 0 1 = cc in absurd (omega arith)
-  payload-settles payload tx time (some content) hx ht w e g =
-      let d : decodeOf (payloadOf tx time content) ≡ Entry (placed tx time content) (length (payloadOf tx time content)) = rw append-nil at (decode-payload tx time hx ht [] content (readable content w)) in
-      let c : contentAt (payloadOf tx time content) (placed tx time content) ≡ content = rw append-nil at (content-payload tx time hx ht [] content) in
-      rw (e, d, c) (change-settles content w g)
+-- a payload that was written is read back
+payload-effect : (payload : List ℕ) (tx time : ℕ) (content : Option Content) → tx < 2 ^ 64 → time < 2 ^ 64 → isWellFormed content ≡ true → payload ≡ payloadFor tx time content → effectAt payload (decodeOf payload) ≡ effectAs content
+payload-effect payload tx time none hx ht w e = let z : _≡_ {A = ℕ} 0 1 = cc in absurd (omega arith)
+payload-effect payload tx time (some content) hx ht w e =
+    let d : decodeOf (payloadOf tx time content) ≡ Entry (placed tx time content) (length (payloadOf tx time content)) = rw append-nil at (decode-payload tx time hx ht [] content (well-formed-readable content w)) in
+    let c : contentAt (payloadOf tx time content) (placed tx time content) ≡ content = rw append-nil at (content-payload tx time hx ht [] content) in
+    rw (e, d, c)
 
 -- ---- the entries, one after the other
 
 -- an entry whose payload stands in the area, and whose key, if it sets one, is one of these
 record Applies (area : List ℕ) (keys : List (List ℕ)) (w : Written) : Type 0 where
   kept : Kept area w
-  named : Named keys (askedBy (w .request))
+  named : Named keys (effectBy (w .request))
 
 module _ (records : ℕ) (area : List ℕ) (keys : List (List ℕ)) (room : length keys ≤ records) where
-  apply-settles : (w : Written) (rs : List Row) → Applies area keys w → Keyed keys rs → applyOf records area (listedAs w) rs ≡ rows (settle (askedBy (w .request)) rs)
-  unfolding applyOf encoded
+  apply-settles : (w : Written) (rs : List Row) → Applies area keys w → Keyed keys rs → changedBy records (effectIn area (listedAs w)) rs ≡ accepted (settle (effectBy (w .request)) rs)
+  unfolding effectIn encoded
   apply-settles w rs a h =
       let t = a .kept .accepted .typed in
-      payload-settles records keys room rs h (payloadIn area (listedAs w)) (w .request .tx) (w .request .time) (askedBy (w .request)) (t .tx) (t .time) (a .kept .accepted .well-formed) (a .kept .payload) (a .named)
+      let well = a .kept .accepted .well-formed in
+      rw (payload-effect (payloadIn area (listedAs w)) (w .request .tx) (w .request .time) (askedBy (w .request)) (t .tx) (t .time) well (a .kept .payload))
+      (change-settles records keys room rs h (effectBy (w .request)) (effect-fits (askedBy (w .request)) well) (a .named))
 
   -- the rows after a number's entries
   number-keyed : (number : ℕ) (ws : List Written) (rs : List Row) → All (Applies area keys) ws → Keyed keys rs → Keyed keys (runNumber number ws rs)
@@ -137,18 +145,18 @@ module _ (records : ℕ) (area : List ℕ) (keys : List (List ℕ)) (room : leng
   number-keyed number [] rs gs h = h
   number-keyed number (w ∷ ws) rs gs h =
       caseB (eqb (w .request .tx) number)
-      (λ q. rw q (number-keyed number ws _ (gs .1) (settle-keyed keys rs h (askedBy (w .request)) (gs .0 .named))))
+      (λ q. rw q (number-keyed number ws _ (gs .1) (settle-keyed keys rs h (effectBy (w .request)) (gs .0 .named))))
       (λ q. rw q (number-keyed number ws rs (gs .1) h))
 
-  number-settles : (number : ℕ) (ws : List Written) (rs : List Row) → All (Applies area keys) ws → Keyed keys rs → runOf records area (entriesOf number (listedAll ws)) rs ≡ rows (runNumber number ws rs)
+  number-settles : (number : ℕ) (ws : List Written) (rs : List Row) → All (Applies area keys) ws → Keyed keys rs → runOf records area (entriesOf number (listedAll ws)) rs ≡ accepted (runNumber number ws rs)
   unfolding runOf entriesOf runNumber listedAs
   number-settles number [] rs gs h = refl
   number-settles number (w ∷ ws) rs gs h =
       caseB (eqb (w .request .tx) number)
-      (λ q. rw (q, apply-settles w rs (gs .0) h) (number-settles number ws _ (gs .1) (settle-keyed keys rs h (askedBy (w .request)) (gs .0 .named))))
+      (λ q. rw (q, apply-settles w rs (gs .0) h) (number-settles number ws _ (gs .1) (settle-keyed keys rs h (effectBy (w .request)) (gs .0 .named))))
       (λ q. rw q (number-settles number ws rs (gs .1) h))
 
-  numbers-settle : (ns : List ℕ) (ws : List Written) (rs : List Row) → All (Applies area keys) ws → Keyed keys rs → runOf records area (entriesInTurn ns (listedAll ws)) rs ≡ rows (runNumbers ns ws rs)
+  numbers-settle : (ns : List ℕ) (ws : List Written) (rs : List Row) → All (Applies area keys) ws → Keyed keys rs → runOf records area (entriesInTurn ns (listedAll ws)) rs ≡ accepted (runNumbers ns ws rs)
   unfolding runOf entriesInTurn runNumbers
   numbers-settle [] ws rs gs h = refl
   numbers-settle (n ∷ ns) ws rs gs h =
@@ -158,46 +166,37 @@ module _ (records : ℕ) (area : List ℕ) (keys : List (List ℕ)) (room : leng
 -- ---- the keys that are ever written
 
 -- a key among them stays so
-with-had : (content : Option Content) (keys : List (List ℕ)) (key : List ℕ) → Has compareBytes itself key keys → Has compareBytes itself key (withKey content keys)
-with-had (some (insert k value)) keys key g = put-had compareBytes bytes-order itself _ itself _ (λ r e. e) refl key keys g
-with-had (some (update k old new)) keys key g = put-had compareBytes bytes-order itself _ itself _ (λ r e. e) refl key keys g
-with-had (some (delete k old)) keys key g = g
-with-had (some commit) keys key g = g
-with-had (some abort) keys key g = g
-with-had none keys key g = g
+with-had : (x : Effect) (keys : List (List ℕ)) (key : List ℕ) → Has compareBytes itself key keys → Has compareBytes itself key (withKey x keys)
+with-had (puts k value) keys key g = put-had compareBytes bytes-order itself _ itself _ (λ r e. e) refl key keys g
+with-had (drops k) keys key g = g
+with-had keeps keys key g = g
 
-with-named : (content : Option Content) (keys : List (List ℕ)) (other : Option Content) → Named keys other → Named (withKey content keys) other
-with-named content keys (some (insert key value)) g = with-had content keys key g
-with-named content keys (some (update key old new)) g = with-had content keys key g
-with-named content keys (some (delete key old)) g = tt
-with-named content keys (some commit) g = tt
-with-named content keys (some abort) g = tt
-with-named content keys none g = tt
+with-named : (x : Effect) (keys : List (List ℕ)) (other : Effect) → Named keys other → Named (withKey x keys) other
+with-named x keys (puts key value) g = with-had x keys key g
+with-named x keys (drops key) g = tt
+with-named x keys keeps g = tt
 
 -- an entry's own key is among them
-with-own : (content : Option Content) (keys : List (List ℕ)) → Named (withKey content keys) content
-with-own (some (insert key value)) keys = put-has compareBytes bytes-order itself key itself key (λ r e. e) refl keys
-with-own (some (update key old new)) keys = put-has compareBytes bytes-order itself key itself key (λ r e. e) refl keys
-with-own (some (delete key old)) keys = tt
-with-own (some commit) keys = tt
-with-own (some abort) keys = tt
-with-own none keys = tt
+with-own : (x : Effect) (keys : List (List ℕ)) → Named (withKey x keys) x
+with-own (puts key value) keys = put-has compareBytes bytes-order itself key itself key (λ r e. e) refl keys
+with-own (drops key) keys = tt
+with-own keeps keys = tt
 
-all-with : (area : List ℕ) (keys : List (List ℕ)) (content : Option Content) (ws : List Written) → All (Applies area keys) ws → All (Applies area (withKey content keys)) ws
-all-with area keys content [] gs = tt
-all-with area keys content (w ∷ ws) gs =
-    (record { kept = gs .0 .kept; named = with-named content keys (askedBy (w .request)) (gs .0 .named) }, all-with area keys content ws (gs .1))
+all-with : (area : List ℕ) (keys : List (List ℕ)) (x : Effect) (ws : List Written) → All (Applies area keys) ws → All (Applies area (withKey x keys)) ws
+all-with area keys x [] gs = tt
+all-with area keys x (w ∷ ws) gs =
+    (record { kept = gs .0 .kept; named = with-named x keys (effectBy (w .request)) (gs .0 .named) }, all-with area keys x ws (gs .1))
 
 all-apply : (area : List ℕ) (ws : List Written) → All (Kept area) ws → All (Applies area (keysOf ws)) ws
 unfolding keysOf
 all-apply area [] ks = tt
 all-apply area (w ∷ ws) ks =
-    let content = askedBy (w .request) in
-    (record { kept = ks .0; named = with-own content (keysOf ws) }, all-with area (keysOf ws) content ws (all-apply area ws (ks .1)))
+    let x = effectBy (w .request) in
+    (record { kept = ks .0; named = with-own x (keysOf ws) }, all-with area (keysOf ws) x ws (all-apply area ws (ks .1)))
 
 -- the table has a record for every key ever written: then replay of kept entries is not refused, and leaves the table that
 -- their transactions make
-pub settled : (records : ℕ) (area : List ℕ) (ws : List Written) → All (Kept area) ws → length (keysOf ws) ≤ records → runOf records area (replayed (listedAll ws)) [] ≡ rows (settingsOf ws)
+pub settled : (records : ℕ) (area : List ℕ) (ws : List Written) → All (Kept area) ws → length (keysOf ws) ≤ records → runOf records area (replayed (listedAll ws)) [] ≡ accepted (settingsOf ws)
 unfolding replayed settingsOf
 settled records area ws ks room =
     numbers-settle records area (keysOf ws) room (replayOrder (listedAll ws)) ws [] (all-apply area ws ks) (none-keyed (keysOf ws))

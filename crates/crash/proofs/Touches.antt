@@ -3,23 +3,23 @@
 use mathlib.Core.Path.{_≡_, refl, _∙_}
 use mathlib.Core.Bool.{Bool, true, false, _&&_, _||_}
 use mathlib.Core.List.{List, [], _∷_, _++_}
-use mathlib.Core.Option.{Option, none, some}
+use mathlib.Core.Option.{Option, none}
 use Prim.Native.Nat.{ℕ}
 use native.Mathlib.Omega.{arith}
 use lib.Dec.{eqb}
 use Rattle.fields.proofs.Cases.{caseB}
 use Rattle.records.specs.Sorted.{recordOf}
-use Rattle.records.proofs.Dense.{All}
-use Rattle.payload.specs.Content.{Content, insert, update, delete, commit, abort}
+use Rattle.records.specs.Dense.{All}
 use Rattle.table.specs.Row.{Row}
 use Rattle.table.specs.Table.{Sorted, lookup}
 use Rattle.store.specs.Order.{replayOrder}
+use Rattle.store.specs.Effect.{Effect, puts, drops, keeps}
 use Rattle.store.specs.Left.{leftBy}
 use Rattle.store.proofs.Runs.{set-left, remove-left}
-use Rattle.crash.specs.Write.{askedBy, Written}
+use Rattle.crash.specs.Write.{Written}
 use Rattle.crash.specs.Kept.{listedAll}
-use Rattle.crash.specs.Settings.{settle, runNumber, runNumbers, settingsOf}
-use Rattle.crash.specs.Touch.{names, touches, leftIf, leavesFrom, leaves, Untouched}
+use Rattle.crash.specs.Settings.{effectBy, settle, runNumber, runNumbers, settingsOf}
+use Rattle.crash.specs.Touch.{names, touches, leavesFrom, leaves, Untouched}
 use Rattle.crash.proofs.Settles.{settle-sorted}
 
 -- ---- the rows stay sorted
@@ -29,7 +29,7 @@ unfolding runNumber
 number-sorted number [] rs s = s
 number-sorted number (w ∷ ws) rs s =
     caseB (eqb (w .request .tx) number)
-    (λ q. rw q (number-sorted number ws _ (settle-sorted (askedBy (w .request)) rs s)))
+    (λ q. rw q (number-sorted number ws _ (settle-sorted (effectBy (w .request)) rs s)))
     (λ q. rw q (number-sorted number ws rs s))
 
 numbers-sorted : (ns : List ℕ) (ws : List Written) (rs : List Row) → Sorted rs → Sorted (runNumbers ns ws rs)
@@ -45,34 +45,25 @@ numbers-append (m ∷ ms) ns ws rs = numbers-append ms ns ws (runNumber m ws rs)
 module _ (key : List ℕ) where
   -- ---- one entry
 
-  settle-left : (content : Option Content) (rs : List Row) → Sorted rs → lookup key (settle content rs) ≡ leftIf key content (lookup key rs)
+  settle-left : (x : Effect) (rs : List Row) → Sorted rs → lookup key (settle x rs) ≡ leftBy key x (lookup key rs)
   unfolding settle leftBy
-  settle-left (some (insert k value)) rs s = set-left key rs s k value
-  settle-left (some (update k old new)) rs s = set-left key rs s k new
-  settle-left (some (delete k old)) rs s = remove-left key rs s k
-  settle-left (some commit) rs s = refl
-  settle-left (some abort) rs s = refl
-  settle-left none rs s = refl
+  settle-left (puts k value) rs s = set-left key rs s k value
+  settle-left (drops k) rs s = remove-left key rs s k
+  settle-left keeps rs s = refl
 
   -- an entry that names the key decides, whatever was there
-  named-left : (content : Option Content) (was other : Option (List ℕ)) → names key content ≡ true → leftIf key content was ≡ leftIf key content other
+  named-left : (x : Effect) (was other : Option (List ℕ)) → names key x ≡ true → leftBy key x was ≡ leftBy key x other
   unfolding names leftBy
-  named-left (some (insert k value)) was other e = rw e
-  named-left (some (update k old new)) was other e = rw e
-  named-left (some (delete k old)) was other e = rw e
-  named-left (some commit) was other e = let z : _≡_ {A = ℕ} 0 1 = cc in absurd (omega arith)
-  named-left (some abort) was other e = let z : _≡_ {A = ℕ} 0 1 = cc in absurd (omega arith)
-  named-left none was other e = let z : _≡_ {A = ℕ} 0 1 = cc in absurd (omega arith)
+  named-left (puts k value) was other e = rw e
+  named-left (drops k) was other e = rw e
+  named-left keeps was other e = let z : _≡_ {A = ℕ} 0 1 = cc in absurd (omega arith)
 
   -- another leaves what was there
-  unnamed-left : (content : Option Content) (was : Option (List ℕ)) → names key content ≡ false → leftIf key content was ≡ was
+  unnamed-left : (x : Effect) (was : Option (List ℕ)) → names key x ≡ false → leftBy key x was ≡ was
   unfolding names leftBy
-  unnamed-left (some (insert k value)) was e = rw e
-  unnamed-left (some (update k old new)) was e = rw e
-  unnamed-left (some (delete k old)) was e = rw e
-  unnamed-left (some commit) was e = refl
-  unnamed-left (some abort) was e = refl
-  unnamed-left none was e = refl
+  unnamed-left (puts k value) was e = rw e
+  unnamed-left (drops k) was e = rw e
+  unnamed-left keeps was e = refl
 
   -- ---- one transaction
 
@@ -81,7 +72,7 @@ module _ (key : List ℕ) where
   number-left number [] rs s = refl
   number-left number (w ∷ ws) rs s =
       caseB (eqb (w .request .tx) number)
-      (λ q. rw (q, ← settle-left (askedBy (w .request)) rs s) (number-left number ws _ (settle-sorted (askedBy (w .request)) rs s)))
+      (λ q. rw (q, ← settle-left (effectBy (w .request)) rs s) (number-left number ws _ (settle-sorted (effectBy (w .request)) rs s)))
       (λ q. rw q (number-left number ws rs s))
 
   touched-left : (number : ℕ) (ws : List Written) (was other : Option (List ℕ)) → touches key number ws ≡ true → leavesFrom key number ws was ≡ leavesFrom key number ws other
@@ -90,7 +81,7 @@ module _ (key : List ℕ) where
   touched-left number (w ∷ ws) was other h =
       caseB (touches key number ws)
       (λ q. touched-left number ws _ _ q)
-      (λ q. let both = first (eqb (w .request .tx) number) (names key (askedBy (w .request))) (rw q at h) in rw (both .0, named-left (askedBy (w .request)) was other (both .1)))
+      (λ q. let both = first (eqb (w .request .tx) number) (names key (effectBy (w .request))) (rw q at h) in rw (both .0, named-left (effectBy (w .request)) was other (both .1)))
     where
       first : (a b : Bool) → ((a && b) || false) ≡ true → (a ≡ true) × (b ≡ true)
       first true true e = (refl, refl)
@@ -103,9 +94,9 @@ module _ (key : List ℕ) where
   untouched-left number (w ∷ ws) was h =
       caseB (eqb (w .request .tx) number)
       (λ p.
-      caseB (names key (askedBy (w .request)))
+      caseB (names key (effectBy (w .request)))
       (λ q. let f = rw (p, q) at h in let z : _≡_ {A = ℕ} 0 1 = cc in absurd (omega arith))
-      (λ q. rw (p, unnamed-left (askedBy (w .request)) was q) (untouched-left number ws was (rw (p, q) at h))))
+      (λ q. rw (p, unnamed-left (effectBy (w .request)) was q) (untouched-left number ws was (rw (p, q) at h))))
       (λ p. rw p (untouched-left number ws was (rw p at h)))
 
   -- ---- the transactions in their order

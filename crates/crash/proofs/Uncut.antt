@@ -7,7 +7,7 @@ use native.Mathlib.Nat.{sub-zero}
 use native.Mathlib.Omega.{arith}
 use lib.ListN.{length}
 use lib.Seq.{take-length}
-use Rattle.records.proofs.Dense.{All}
+use Rattle.records.specs.Dense.{All}
 use Rattle.directory.specs.Record.{recordsOf}
 use Rattle.recovery.specs.Log.{readLog}
 use Rattle.recovery.specs.Recover.{recoverOf}

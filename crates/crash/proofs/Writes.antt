@@ -12,29 +12,26 @@ use lib.Dec.{leb}
 use lib.ListN.{length, getD, take, drop, length-append}
 use lib.Seq.{sets, sets-eq, length-sets, append-snoc, take-append-seam, take-at, getD-at}
 use Rattle.fields.proofs.Cases.{tests}
-use Rattle.records.proofs.Dense.{All}
+use Rattle.records.specs.Dense.{All}
 use Rattle.header.specs.Header.{entryBytes}
 use Rattle.payload.specs.Content.{Content}
-use Rattle.payload.specs.Encode.{isWellFormed}
+use Rattle.payload.specs.Encode.{isWellFormed, payloadFor}
 use Rattle.directory.specs.Record.{recordBytes, recordsOf, endOf}
-use Rattle.refusal.specs.declared.Refusal.the-variants.{NoRoom}
-use Rattle.directory.specs.Rule.{endBefore, lastOf, afterRecord, newSegment, testOf}
+use Rattle.refusal.specs.Answer as Answers
+use Rattle.refusal.specs.Answer.{Answer, refused, accepted, andThen}
+use Rattle.directory.specs.Rule.{endBefore, afterRecord, testOf}
 use Rattle.directory.specs.declared.record.SegmentRecord.{SegmentRecord}
 use Rattle.directory.specs.declared.rule.Last.the-variants.{NoSegment}
-use Rattle.directory.specs.declared.rule.Tested.{Tested}
-use Rattle.directory.specs.declared.rule.Tested.the-variants.{Sound}
-use Rattle.directory.specs.declared.rule.Tested.the-variants as Test
 use Rattle.directory.proofs.Records.{length-records, records-snoc, records-more}
-use Rattle.directory.proofs.Rules.{last-snoc}
+use Rattle.directory.proofs.Rules.{lastOf, last-snoc}
 use Rattle.directory.proofs.Sound.{sound-says, sound-so}
-use Rattle.segment.specs.Answer.{Answer, refused, counts, written}
-use Rattle.plan.specs.Plan.{lastUsed, nextOf, segmentAfter, newSegmentOf}
-use Rattle.plan.specs.declared.NewSegment.the-variants as New
-use Rattle.segment.specs.Writing.{fresh, openAs, openOf, Log, appendEntryOf, appendOf}
+use Rattle.segment.specs.Answer.{Added}
+use Rattle.plan.specs.Plan.{lastUsed, lastIn, newSegment, nextOf, newSegmentOf}
+use Rattle.segment.specs.Writing.{fresh, openBy, openOf, Log, appendEntryOf, appendOf}
 use Rattle.segment.specs.declared.SegmentManager.{SegmentManager}
 use Rattle.plan.proofs.Plans.{IsBehind, last-is, plan-says}
-use Rattle.segment.proofs.Logs.{Accepts, entry-length, entry-is-raw, accepted, append-accepted}
-use Rattle.crash.specs.Write.{Request, askedBy, payloadAs, encoded, Held, heldOpened, heldAppended, openWith, appendTo, Written, lastWritten, WrittenLog, withFirst, ifAccepted, appendAll, ifOpened, writeLog, Typed}
+use Rattle.segment.proofs.Logs.{Accepts, entry-length, entry-is-raw, entry-accepted, append-accepted}
+use Rattle.crash.specs.Write.{Request, askedBy, encoded, Held, heldOpened, heldAppended, openWith, appendTo, Written, lastWritten, WrittenLog, withFirst, ifAccepted, appendAll, ifOpened, writeLog, Typed}
 use Rattle.crash.proofs.Laid.{imageOf, together, recordsFrom, writtenFrom, Laid}
 use Rattle.crash.proofs.Images.{image-append, written-append}
 use Rattle.crash.proofs.Laying.{length-image, image-one, length-one, together-behind, length-from, all-snoc, split-last, recordBehind, records-behind, rule-from}
@@ -45,12 +42,12 @@ abbrev storedBehind : List ℕ → List (List Request) → List Request → List
 storedBehind d before s = sets d (24 * length before) (recordBytes (recordBehind before s))
 
 record Stored (area : ℕ) (d : List ℕ) (before : List (List Request)) (s : List Request) : Type 0 where
-  sound : testOf area (storedBehind d before s) (length before + 1) ≡ Sound
+  sound : testOf area (storedBehind d before s) (length before + 1) ≡ Answers.sound
   records : recordsOf (length before + 1) (storedBehind d before s) ≡ recordsFrom 1 0 (before ++ (s ∷ []))
   end : endOf (lastUsed (storedBehind d before s) (length before + 1)) ≡ length (imageOf (together before)) + length (imageOf s)
 
 -- the directory was sound, those records stand in it, there is one more, and the segment ends in the area
-stores : (area : ℕ) (d : List ℕ) (used : ℕ) (before : List (List Request)) (s : List Request) → testOf area d used ≡ Sound → recordsOf (length before) d ≡ recordsFrom 1 0 before → 24 * (length before + 1) ≤ length d → length (imageOf (together before)) + length (imageOf s) ≤ area → Stored area d before s
+stores : (area : ℕ) (d : List ℕ) (used : ℕ) (before : List (List Request)) (s : List Request) → testOf area d used ≡ Answers.sound → recordsOf (length before) d ≡ recordsFrom 1 0 before → 24 * (length before + 1) ≤ length d → length (imageOf (together before)) + length (imageOf s) ≤ area → Stored area d before s
 stores area d used before s sound there unused room =
     let t = sound-says area d used sound in
     let q = recordBehind before s in
@@ -75,13 +72,13 @@ abbrev logOf : List Written → Held → WrittenLog
 logOf entries h = record { entries = entries; held = h }
 
 opening-laid : (bound : ℕ) (area directory : List ℕ) (h : Held) → openWith bound area directory ≡ some h → Laid (logOf [] h) ([] ∷ [])
-unfolding openWith openOf newSegmentOf nextOf newSegment lastOf recordsOf imageOf together recordsFrom writtenFrom
+unfolding openWith openOf newSegmentOf nextOf newSegment lastIn recordsOf imageOf together recordsFrom writtenFrom
 opening-laid bound area directory h e = told (testOf (length area) directory 0) refl (leb (length directory / 24) 0) refl e
   where
-    told : (t : Tested) → testOf (length area) directory 0 ≡ t → (full : Bool) → leb (length directory / 24) 0 ≡ full → (let o = openAs (segmentAfter t (cond full (New.Refused NoRoom) (New.Record (newSegment NoSegment)))) (fresh bound) directory 0 in heldOpened (o .answer) o area) ≡ some h → Laid (logOf [] h) ([] ∷ [])
-    told (Test.Refused x) f full g e = let z : _≡_ {A = ℕ} 0 1 = cc in absurd (omega arith)
-    told Sound f true g e = let z : _≡_ {A = ℕ} 0 1 = cc in absurd (omega arith)
-    told Sound f false g e =
+    told : (t : Answer (Unit {0})) → testOf (length area) directory 0 ≡ t → (full : Bool) → leb (length directory / 24) 0 ≡ full → (let o = openBy (andThen t (λ _. cond full (refused 5) (accepted (newSegment NoSegment)))) (fresh bound) directory 0 in heldOpened (o .answer) o area) ≡ some h → Laid (logOf [] h) ([] ∷ [])
+    told (refused x) f full g e = let z : _≡_ {A = ℕ} 0 1 = cc in absurd (omega arith)
+    told (accepted x) f true g e = let z : _≡_ {A = ℕ} 0 1 = cc in absurd (omega arith)
+    told (accepted x) f false g e =
         let held : _≡_ {A = Held} (record { manager = fresh bound; used = 1; directory = storedBehind directory [] []; area = area }) h = cc in
         let s = stores (length area) directory 0 [] [] f refl (omega (arith, tests)) (omega arith) in
         rw (← held) (record { sound = s .sound; records = s .records; image = refl; entries = refl; accepted = tt })
@@ -96,32 +93,31 @@ record Behind (h : Held) (r : Request) (s : SegmentRecord) (k : ℕ) (g : Held) 
   area : g .area ≡ sets (h .area) (endOf s) (entryBytes (encoded r))
 
 -- the entry call is the raw call on the entry's encoding
-as-raw : (m : SegmentManager) (area d : List ℕ) (used lsn tx time : ℕ) (content : Option Content) → isWellFormed content ≡ true → appendOf m area d used lsn tx time content ≡ appendEntryOf m area d used lsn (payloadAs tx time content)
+as-raw : (m : SegmentManager) (area d : List ℕ) (used lsn tx time : ℕ) (content : Option Content) → isWellFormed content ≡ true → appendOf m area d used lsn tx time content ≡ appendEntryOf m area d used lsn (payloadFor tx time content)
 as-raw m area d used lsn tx time none e = absurd (false≢true e)
 as-raw m area d used lsn tx time (some content) e = entry-is-raw m area d used lsn tx time content e
 
 -- what an accepted append says
 module _ (h g : Held) (r : Request) (e : appendTo h r ≡ some g) where
-  answers : (u : ℕ) × ((n : ℕ) × (appendOf (h .manager) (h .area) (h .directory) (h .used) (r .lsn) (r .tx) (r .time) (askedBy r) .answer ≡ written u n))
+  answers : (x : Added) × (appendOf (h .manager) (h .area) (h .directory) (h .used) (r .lsn) (r .tx) (r .time) (askedBy r) .answer ≡ accepted x)
   unfolding appendTo
   answers =
       let l = appendOf (h .manager) (h .area) (h .directory) (h .used) (r .lsn) (r .tx) (r .time) (askedBy r) in
       told l (l .answer) refl e
     where
-      told : (l : Log) (a : Answer) → l .answer ≡ a → heldAppended a l ≡ some g → (u : ℕ) × ((n : ℕ) × (l .answer ≡ written u n))
-      told l (written u n) q e = (u, (n, q))
-      told l (counts u) q e = let z : _≡_ {A = ℕ} 0 1 = cc in absurd (omega arith)
+      told : (l : Log) (a : Answer Added) → l .answer ≡ a → heldAppended a l ≡ some g → (x : Added) × (l .answer ≡ accepted x)
+      told l (accepted x) q e = (x, q)
       told l (refused number) q e = let z : _≡_ {A = ℕ} 0 1 = cc in absurd (omega arith)
 
   append-well-formed : isWellFormed (askedBy r) ≡ true
-  append-well-formed = append-accepted _ _ _ _ _ _ _ _ _ _ (answers .1 .1)
+  append-well-formed = append-accepted _ _ _ _ _ _ _ _ _ (answers .1)
 
   is-raw : appendOf (h .manager) (h .area) (h .directory) (h .used) (r .lsn) (r .tx) (r .time) (askedBy r) ≡ appendEntryOf (h .manager) (h .area) (h .directory) (h .used) (r .lsn) (encoded r)
   unfolding encoded
   is-raw = as-raw (h .manager) (h .area) (h .directory) (h .used) (r .lsn) (r .tx) (r .time) (askedBy r) append-well-formed
 
   write : (w : _) × Accepts (h .manager) (h .area) (h .directory) (h .used) (r .lsn) (encoded r) w
-  write = accepted (h .manager) (h .area) (h .directory) (h .used) (r .lsn) (encoded r) (answers .0) (answers .1 .0) (rw is-raw at (answers .1 .1))
+  write = entry-accepted (h .manager) (h .area) (h .directory) (h .used) (r .lsn) (encoded r) (answers .0) (rw is-raw at (answers .1))
 
   behind : (s : SegmentRecord) (k : ℕ) (rotated : Bool) → IsBehind s k rotated (length (h .area)) (length (encoded r)) (write .0) → Behind h r s k g
   unfolding appendTo

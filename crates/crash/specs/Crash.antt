@@ -6,7 +6,7 @@ use mathlib.Core.Path.{_≡_}
 use mathlib.Core.List.{List}
 use mathlib.Core.Option.{some}
 use lib.ListN.{length}
-use Rattle.records.proofs.Dense.{All}
+use Rattle.records.specs.Dense.{All}
 use Rattle.recovery.specs.Recover.{recoverOf}
 use Rattle.store.specs.Replay.{replayOf}
 use Rattle.crash.specs.Write.{Request, WrittenLog, writeLog, Typed}

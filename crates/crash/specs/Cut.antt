@@ -13,7 +13,8 @@ use Rattle.directory.specs.declared.lent.Lent.the-variants as Lends
 use Rattle.directory.specs.declared.record.SegmentRecord.{SegmentRecord}
 use Rattle.lists.specs.Entries.{entryRecordBytes}
 use Rattle.lists.specs.Transactions.{transactionBytes, transactionsOf}
-use Rattle.recovery.specs.Recover.{recovered, recoveredOf, Recovering}
+use Rattle.refusal.specs.Answer.{accepted}
+use Rattle.recovery.specs.Recover.{recoveredOf, Recovering}
 use Rattle.table.specs.Table.{tableOf}
 use Rattle.store.specs.Replay.{Replaying}
 use Rattle.crash.specs.Write.{Written, Held}
@@ -64,7 +65,7 @@ pub record Enough (kept : List Written) (entries transactions table : List ℕ) 
 unfoldable pub recoveredFrom : (cut : ℕ) → List Written → (entries transactions : ℕ) → Recovering
 recoveredFrom cut ws entries transactions =
     record {
-      answer = recovered (recoveredOf (readUpTo cut ws));
+      answer = accepted (recoveredOf (readUpTo cut ws));
       entries = dense entryRecordBytes entries (listedAll (keptBy cut ws));
       transactions = dense transactionBytes transactions (transactionsOf (listedAll (keptBy cut ws)));
     }

@@ -18,17 +18,18 @@ use Rattle.payload.specs.Content.{fixedBytes, partBytes, payloadOf, keyFits, va
 use Rattle.payload.specs.Encode.{asked}
 use Rattle.directory.specs.Lent.{fitsOf}
 use Rattle.directory.specs.Record.{recordAt, recordBytes, recordsOf}
-use Rattle.directory.specs.Rule.{liesOf, followsOf, ruleFrom, directoryRule, testOf, lastOf, newSegment}
+use Rattle.directory.specs.Rule.{liesOf, followsOf, ruleFrom, directoryRule, testOf}
 use Rattle.records.specs.Sorted.{compareNumbers, put}
 use Rattle.fields.specs.Order.{compareBytes}
 use Rattle.lists.specs.Transactions.{noted, begun, note, noteAll, transactionsOf}
-use Rattle.plan.specs.Plan.{nextOf, newSegmentOf, appendTestOf, behindOf, planOf}
-use Rattle.segment.specs.Writing.{openOf, counted, writtenOf, contentOf, appendOf}
+use Rattle.plan.specs.Plan.{lastIn, newSegment, nextOf, newSegmentOf, appendTestOf, behindOf, planOf, planAppendOf}
+use Rattle.segment.specs.Writing.{openOf, counted, appendEntryOf, appendOf}
 use Rattle.crash.specs.Write.{Request, encoded, WrittenLog, openWith, appendTo, appendAll, writeLog, Typed}
 use Rattle.crash.specs.Kept.{keptBy, isInside, listedAs}
 use Rattle.table.specs.Row.{rowOf}
 use Rattle.table.specs.Table.{set}
 use Rattle.store.specs.Order.{committedOf, replayOrder}
+use Rattle.store.specs.Effect.{effectOf}
 use Rattle.crash.specs.Settings.{settle, runNumber, runNumbers, settingsOf, keysOf}
 use Rattle.crash.specs.Cut.{IsCut, Enough}
 use Rattle.crash.specs.Crash.{Story, cutOf, Given}
@@ -87,7 +88,7 @@ record Computed : Type 0 where
   table-left : settingsOf (keptBy (cutOf story) (written .entries)) ≡ rowOf (97 ∷ []) (9 ∷ []) ∷ []
 
 computed : Computed
-unfolding isInside settingsOf runNumbers runNumber settle set replayOrder committedOf keptBy listedAs transactionsOf noteAll note noted begun put compareNumbers compareBytes keysOf encoded written writeLog openWith openOf newSegmentOf nextOf lastOf newSegment testOf fitsOf directoryRule ruleFrom followsOf liesOf recordsOf recordAt recordBytes leBytes leOf appendAll appendTo appendOf appendTestOf contentOf wellFormed keyFits valueFits isUtf8 completes any after Utf8.begun utf8-char utf8-1 utf8-2 utf8-3 utf8-4 tail asked byKind writtenOf planOf behindOf counted entryBytes headerOf headerBytes crc32Of register byteStep bitSteps bitStep payloadOf fixedBytes partBytes
+unfolding isInside settingsOf runNumbers runNumber settle set replayOrder committedOf keptBy listedAs transactionsOf noteAll note noted begun put compareNumbers compareBytes keysOf encoded written writeLog openWith openOf newSegmentOf nextOf lastIn newSegment testOf fitsOf directoryRule ruleFrom followsOf liesOf recordsOf recordAt recordBytes leBytes leOf appendAll appendTo appendOf appendEntryOf appendTestOf planAppendOf wellFormed keyFits valueFits isUtf8 completes any after Utf8.begun utf8-char utf8-1 utf8-2 utf8-3 utf8-4 tail asked byKind effectOf planOf behindOf counted entryBytes headerOf headerBytes crc32Of register byteStep bitSteps bitStep payloadOf fixedBytes partBytes
 computed =
     record {
       is-written = refl;

@@ -12,6 +12,7 @@ use Rattle.payload.specs.Encode.{asked}
 use Rattle.lists.specs.Transactions.{noted, begun, note, noteAll, transactionsOf}
 use Rattle.table.specs.Row.{rowOf}
 use Rattle.table.specs.Table.{set, removeKey}
+use Rattle.store.specs.Effect.{effectOf}
 use Rattle.store.specs.Order.{committedOf, replayOrder}
 use Rattle.store.specs.Left.{leftBy}
 use Rattle.crash.specs.Write.{Written}
@@ -48,5 +49,5 @@ record Examples : Type 0 where
   last : leaves a 1 log ≡ some (4 ∷ [])
 
 examples : Examples
-unfolding settingsOf runNumbers runNumber settle keysOf touches names leaves leavesFrom leftBy replayOrder committedOf transactionsOf noteAll note put remove compareNumbers noted begun listedAs asked byKind set removeKey compareBytes sameBytes
+unfolding settingsOf runNumbers runNumber settle keysOf touches names leaves leavesFrom leftBy effectOf replayOrder committedOf transactionsOf noteAll note put remove compareNumbers noted begun listedAs asked byKind set removeKey compareBytes sameBytes
 examples = record { settings = refl; keys = refl; touched = refl; deleted = refl; by-marker = refl; last = refl }

@@ -6,11 +6,11 @@ use mathlib.Core.Bool.{cond}
 use mathlib.Core.List.{List, _++_, map}
 use mathlib.Core.Option.{some}
 use lib.ListN.{length}
-use Rattle.lists.specs.declared.admit.Full.the-variants.{Room}
+use Rattle.refusal.specs.Answer.{Answer, refused, accepted}
 use Rattle.recovery.specs.Log.{LogRead}
-use Rattle.recovery.specs.Recover.{Answer, refused, recovered, Recovering, recoverAs, recoverOf}
-use Rattle.table.specs.Table.{rows}
-use Rattle.store.specs.Replay.{Replaying, ranAs, replayOf}
+use Rattle.recovery.specs.Recover.{Recovering, listing, recoverOf}
+use Rattle.recovery.specs.declared.Recovered.{Recovered}
+use Rattle.store.specs.Replay.{Replaying, replayAfter, replayOf}
 use Rattle.crash.specs.Write.{Request, Written, WrittenLog, writeLog}
 use Rattle.crash.specs.Kept.{keptBy, isInside, listedAll}
 use Rattle.crash.specs.Settings.{settingsOf}
@@ -25,10 +25,10 @@ allRead ws = record { entries = listedAll ws; partial = 0; checksum = 0 }
 
 -- and neither recovery nor replay is refused
 abbrev pub recoveredAll : List Written → (entries transactions : ℕ) → Recovering
-recoveredAll ws entries transactions = recoverAs Room (allRead ws) entries transactions
+recoveredAll ws entries transactions = listing (allRead ws) entries transactions
 
 abbrev pub replayedAll : List Written → (entries transactions table : ℕ) → Replaying
-replayedAll ws entries transactions table = ranAs (rows (settingsOf ws)) (recoveredAll ws entries transactions) table
+replayedAll ws entries transactions table = replayAfter (accepted (settingsOf ws)) (recoveredAll ws entries transactions) table
 
 abbrev pub requestOf : Written → Request
 requestOf w = w .request
@@ -47,10 +47,10 @@ pub record Everything (rs : List Request) (log : WrittenLog) (entries transactio
 -- ---- "an entry after the cut leaves no trace"
 
 -- the same answer, with this count of partial writes
-abbrev pub answerWith : (partial : ℕ) → Answer → Answer
+abbrev pub answerWith : (partial : ℕ) → Answer Recovered → Answer Recovered
 answerWith partial (refused number) = refused number
-answerWith partial (recovered values) =
-    recovered (record {
+answerWith partial (accepted values) =
+    accepted (record {
       stats = record {
         «total_transactions» = values .stats .«total_transactions»;
         committed = values .stats .committed;

@@ -9,27 +9,33 @@ use mathlib.Core.Option.{Option, none, some}
 use lib.Dec.{eqb}
 use Rattle.fields.specs.Order.{compareBytes}
 use Rattle.records.specs.Sorted.{put}
-use Rattle.payload.specs.Content.{Content, insert, update, delete, commit, abort}
+use Rattle.payload.specs.Content.{Content}
 use Rattle.table.specs.Row.{Row, rowOf}
 use Rattle.table.specs.Table.{set, removeKey}
 use Rattle.store.specs.Order.{replayOrder}
-use Rattle.crash.specs.Write.{askedBy, Written}
+use Rattle.store.specs.Effect.{Effect, puts, drops, keeps, effectOf}
+use Rattle.crash.specs.Write.{Request, askedBy, Written}
 use Rattle.crash.specs.Kept.{listedAll}
 
--- "Insert and update set"; a delete removes; markers change nothing. It is store's `changedBy` without a table's limits.
-unfoldable pub settle : Option Content → List Row → List Row
-settle (some (insert key value)) rows = set (rowOf key value) rows
-settle (some (update key old new)) rows = set (rowOf key new) rows
-settle (some (delete key old)) rows = removeKey key rows
-settle (some commit) rows = rows
-settle (some abort) rows = rows
-settle none rows = rows
+-- what an entry that is asked for does to the table
+abbrev pub effectAs : Option Content → Effect
+effectAs none = keeps
+effectAs (some content) = effectOf content
+
+abbrev pub effectBy : Request → Effect
+effectBy r = effectAs (askedBy r)
+
+-- store's `changedBy` without a table's limits
+unfoldable pub settle : Effect → List Row → List Row
+settle (puts key value) rows = set (rowOf key value) rows
+settle (drops key) rows = removeKey key rows
+settle keeps rows = rows
 
 -- the entries of a number, in log order
 unfoldable pub runNumber : ℕ → List Written → List Row → List Row
 runNumber number [] rows = rows
 runNumber number (w ∷ ws) rows =
-    runNumber number ws (cond (eqb (w .request .tx) number) (settle (askedBy (w .request)) rows) rows)
+    runNumber number ws (cond (eqb (w .request .tx) number) (settle (effectBy (w .request)) rows) rows)
 
 -- the transactions of some numbers, one after another
 unfoldable pub runNumbers : List ℕ → List Written → List Row → List Row
@@ -46,14 +52,11 @@ abbrev pub itself : List ℕ → List ℕ
 itself key = key
 
 -- put at its place, if it isn't there yet; a delete writes none
-abbrev pub withKey : Option Content → List (List ℕ) → List (List ℕ)
-withKey (some (insert key value)) keys = put compareBytes itself key itself key keys
-withKey (some (update key old new)) keys = put compareBytes itself key itself key keys
-withKey (some (delete key old)) keys = keys
-withKey (some commit) keys = keys
-withKey (some abort) keys = keys
-withKey none keys = keys
+abbrev pub withKey : Effect → List (List ℕ) → List (List ℕ)
+withKey (puts key value) keys = put compareBytes itself key itself key keys
+withKey (drops key) keys = keys
+withKey keeps keys = keys
 
 unfoldable pub keysOf : List Written → List (List ℕ)
 keysOf [] = []
-keysOf (w ∷ ws) = withKey (askedBy (w .request)) (keysOf ws)
+keysOf (w ∷ ws) = withKey (effectBy (w .request)) (keysOf ws)

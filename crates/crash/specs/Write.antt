@@ -6,10 +6,11 @@ use mathlib.Core.List.{List, [], _∷_}
 use mathlib.Core.Option.{Option, none, some}
 use lib.ListN.{length}
 use Rattle.fields.specs.Le.{Bytes}
-use Rattle.payload.specs.Content.{Content, payloadOf}
-use Rattle.payload.specs.Encode.{asked}
+use Rattle.payload.specs.Content.{Content}
+use Rattle.payload.specs.Encode.{asked, payloadFor}
+use Rattle.refusal.specs.Answer.{Answer, byAnswer}
 use Rattle.directory.specs.Record.{endOf}
-use Rattle.segment.specs.Answer.{Answer, refused, counts, written}
+use Rattle.segment.specs.Answer.{Added}
 use Rattle.plan.specs.Plan.{lastUsed}
 use Rattle.segment.specs.Writing.{fresh, OpenedLog, openOf, Log, appendOf}
 use Rattle.segment.specs.declared.SegmentManager.{SegmentManager}
@@ -36,13 +37,9 @@ pub record Typed (r : Request) : Type 0 where
 abbrev pub askedBy : Request → Option Content
 askedBy r = asked (r .kind) (r .key) (r .old) (r .new)
 
-abbrev pub payloadAs : (tx time : ℕ) → Option Content → List ℕ
-payloadAs tx time none = []
-payloadAs tx time (some content) = payloadOf tx time content
-
 -- and its payload
 unfoldable pub encoded : Request → List ℕ
-encoded r = payloadAs (r .tx) (r .time) (askedBy r)
+encoded r = payloadFor (r .tx) (r .time) (askedBy r)
 
 -- what is in the caller's hands between two calls: "the state, directory and area go from one call's promise into the next"
 pub record Held : Type 0 where
@@ -52,17 +49,13 @@ pub record Held : Type 0 where
   pub area : List ℕ
 
 -- after an accepted call, with the used count of its answer; none after a refused one
-abbrev pub heldOpened : Answer → OpenedLog → (area : List ℕ) → Option Held
-heldOpened (counts used) o area =
-    some (record { manager = o .manager; used = used; directory = o .directory; area = area })
-heldOpened (written used len) o area = none
-heldOpened (refused number) o area = none
+abbrev pub heldOpened : Answer ℕ → OpenedLog → (area : List ℕ) → Option Held
+heldOpened answer o area =
+    byAnswer answer (λ _. none) (λ used. some (record { manager = o .manager; used = used; directory = o .directory; area = area }))
 
-abbrev pub heldAppended : Answer → Log → Option Held
-heldAppended (written used len) l =
-    some (record { manager = l .manager; used = used; directory = l .directory; area = l .area })
-heldAppended (counts used) l = none
-heldAppended (refused number) l = none
+abbrev pub heldAppended : Answer Added → Log → Option Held
+heldAppended answer l =
+    byAnswer answer (λ _. none) (λ added. some (record { manager = l .manager; used = added .used; directory = l .directory; area = l .area }))
 
 -- "opened once on an empty directory (any area, any directory buffer, any bound)"
 unfoldable pub openWith : (bound : ℕ) → (area directory : List ℕ) → Option Held

@@ -10,7 +10,7 @@ use lib.ListN.{length, getD, drop}
 use Rattle.fields.proofs.Cases.{tests}
 use Rattle.directory.proofs.Records.{records-turn, records-snoc}
 use Rattle.directory.specs.Record.{recordAt, recordsOf, endOf}
-use Rattle.directory.specs.Rule.{idAfter, endBefore, liesOf, followsOf, afterRecord, ruleFrom, lastOf, newSegment}
+use Rattle.directory.specs.Rule.{idAfter, endBefore, liesOf, followsOf, afterRecord, ruleFrom}
 use Rattle.directory.specs.declared.record.SegmentRecord.{SegmentRecord}
 use Rattle.directory.specs.declared.rule.Last.{Last}
 use Rattle.directory.specs.declared.rule.Last.the-variants.{NoSegment, Segment}
@@ -54,6 +54,11 @@ follows-over area last r s f g =
 pub rule-parts : (area : ℕ) (last : Last) (r : SegmentRecord) (rs : List SegmentRecord) → ruleFrom area last (r ∷ rs) ≡ true → (followsOf area last r ≡ true) × (ruleFrom area (afterRecord r) rs ≡ true)
 unfolding ruleFrom
 rule-parts area last r rs e = and-eq-true-iff (followsOf area last r) (ruleFrom area (afterRecord r) rs) .0 e
+
+-- what a record behind all of them comes after: the last id and the last end
+unfoldable pub lastOf : Last → List SegmentRecord → Last
+lastOf last [] = last
+lastOf last (r ∷ rs) = lastOf (afterRecord r) rs
 
 pub rule-snoc : (area : ℕ) (last : Last) (rs : List SegmentRecord) (r : SegmentRecord) → ruleFrom area last (rs ++ (r ∷ [])) ≡ ruleFrom area last rs && followsOf area (lastOf last rs) r
 unfolding ruleFrom lastOf
@@ -100,13 +105,6 @@ unfolding ruleFrom
 rule-keep area last r rs ks f e =
     let p = rule-parts area last r rs e in
     rw (p .0, f (p .1))
-
--- ---- a new segment
-
-pub new-follows : (area : ℕ) (last : Last) → endBefore last ≤ area → followsOf area last (newSegment last) ≡ true
-unfolding newSegment
-new-follows area NoSegment h = follows-so area NoSegment (record { id = 1; start = 0; length = 0 }) (record { id = refl; start = omega arith; end = omega arith })
-new-follows area (Segment id end) h = follows-so area (Segment id end) (record { id = id + 1; start = end; length = 0 }) (record { id = lt-ltb id (id + 1) (omega arith); start = omega arith; end = omega arith })
 
 -- ---- the loop that tests one record after the other
 

@@ -1,26 +1,25 @@
--- What the test of refusals 1 and 2 says when nothing is refused, and what keeps a directory sound: a new segment, and the last one at another length.
+-- What the test of refusals 1 and 2 says when nothing is refused, and what keeps a directory sound: a record behind the others, and the last one at another length.
 -- Assumes nothing.
 use mathlib.Core.Path.{_≡_, refl, sym, ap, _∙_}
 use mathlib.Core.Bool.{Bool, true, false, cond, and-eq-true-iff}
 use mathlib.Core.List.{List}
-use Prim.Native.Nat.{ℕ, _+_, _*_, _/_, _%_, _^_, _<_, _≤_}
+use Prim.Native.Nat.{ℕ, _+_, _*_, _/_, _%_, _<_, _≤_}
 use native.Mathlib.Omega.{arith}
 use borrow.Author.Tests.{leb-true, le-leb, eqb-true, eq-eqb}
 use lib.ListN.{length, drop}
 use lib.Seq.{sets, length-sets}
 use Rattle.fields.specs.Le.{Bytes}
 use Rattle.fields.proofs.Numbers.{bytes-drop}
-use Rattle.refusal.specs.declared.Refusal.the-variants.{InvalidBuffer, InvalidDirectory}
+use Rattle.refusal.specs.Answer.{refused, sound}
 use Rattle.directory.specs.Lent.{sizeOf, mostOf, fitsOf}
 use Rattle.directory.specs.Record.{recordAt, recordBytes, recordsOf, endOf}
-use Rattle.directory.specs.Rule.{followsOf, endBefore, ruleFrom, lastOf, newSegment, directoryRule, testOf}
+use Rattle.directory.specs.Rule.{followsOf, endBefore, ruleFrom, directoryRule, testOf}
 use Rattle.directory.specs.declared.lent.Lent.{Lent}
 use Rattle.directory.specs.declared.lent.Lent.the-variants.{Area, Directory}
 use Rattle.directory.specs.declared.record.SegmentRecord.{SegmentRecord}
 use Rattle.directory.specs.declared.rule.Last.the-variants.{NoSegment}
-use Rattle.directory.specs.declared.rule.Tested.the-variants.{Refused, Sound}
 use Rattle.directory.proofs.Records.{Held, record-held, length-records, record-of, records-snoc, records-more}
-use Rattle.directory.proofs.Rules.{follows-says, follows-so, rule-snoc, rule-ends, rule-last, new-follows}
+use Rattle.directory.proofs.Rules.{follows-says, follows-so, lastOf, rule-snoc, rule-ends, rule-last}
 
 -- ---- a buffer that fits its row of the table
 
@@ -41,12 +40,12 @@ pub record Sounds (a : ℕ) (d : List ℕ) (u : ℕ) : Type 0 where
   pub used : 24 * u ≤ length d
   pub rule : ruleFrom a NoSegment (recordsOf u d) ≡ true
 
-picked : (s t : Bool) → cond s (cond t Sound (Refused InvalidDirectory)) (Refused InvalidBuffer) ≡ Sound → (s ≡ true) × (t ≡ true)
+picked : (s t : Bool) → cond s (cond t sound (refused 2)) (refused 1) ≡ sound → (s ≡ true) × (t ≡ true)
 picked true true e = (refl, refl)
 picked true false e = let z : _≡_ {A = ℕ} 0 1 = cc in absurd (omega arith)
 picked false t e = let z : _≡_ {A = ℕ} 0 1 = cc in absurd (omega arith)
 
-pub sound-says : (a : ℕ) (d : List ℕ) (u : ℕ) → testOf a d u ≡ Sound → Sounds a d u
+pub sound-says : (a : ℕ) (d : List ℕ) (u : ℕ) → testOf a d u ≡ sound → Sounds a d u
 unfolding testOf directoryRule
 sound-says a d u e =
     let p = picked _ _ e in
@@ -57,25 +56,25 @@ sound-says a d u e =
     let h : u ≤ length d / 24 = leb-true _ _ (r .0) in
     record { area = omega arith; directory = omega arith; whole = g .0; used = omega arith; rule = r .1 }
 
-pub sound-so : (a : ℕ) (d : List ℕ) (u : ℕ) → Sounds a d u → testOf a d u ≡ Sound
+pub sound-so : (a : ℕ) (d : List ℕ) (u : ℕ) → Sounds a d u → testOf a d u ≡ sound
 unfolding testOf directoryRule
 sound-so a d u s =
     let h : u ≤ length d / 24 = omega arith in
     rw (fits-so Area a (omega arith) (omega arith), fits-so Directory (length d) (s .whole) (omega arith), le-leb _ _ h, s .rule)
 
 -- each used segment ends in the area, and so does the last
-pub sound-ends : (a : ℕ) (d : List ℕ) (u : ℕ) → testOf a d u ≡ Sound → (k : ℕ) → k < u → endOf (recordAt (drop (24 * k) d)) ≤ a
+pub sound-ends : (a : ℕ) (d : List ℕ) (u : ℕ) → testOf a d u ≡ sound → (k : ℕ) → k < u → endOf (recordAt (drop (24 * k) d)) ≤ a
 sound-ends a d u e k h =
     let r = recordAt (drop (24 * k) d) in
     rw (record-of u d k r h) at (rule-ends a NoSegment (recordsOf u d) k r (sound-says a d u e .rule) (rw length-records h))
 
-pub sound-last : (a : ℕ) (d : List ℕ) (u : ℕ) → testOf a d u ≡ Sound → endBefore (lastOf NoSegment (recordsOf u d)) ≤ a
+pub sound-last : (a : ℕ) (d : List ℕ) (u : ℕ) → testOf a d u ≡ sound → endBefore (lastOf NoSegment (recordsOf u d)) ≤ a
 sound-last a d u e = rule-last a NoSegment (recordsOf u d) (omega arith) (sound-says a d u e .rule)
 
 -- ---- what keeps a directory sound
 
 -- record k is written, where those before it keep the rule and it follows them
-pub sound-stored : (a : ℕ) (d : List ℕ) (k u : ℕ) (r : SegmentRecord) → Sounds a d u → 24 * (k + 1) ≤ length d → Held r → ruleFrom a NoSegment (recordsOf k d) ≡ true → followsOf a (lastOf NoSegment (recordsOf k d)) r ≡ true → testOf a (sets d (24 * k) (recordBytes r)) (k + 1) ≡ Sound
+pub sound-stored : (a : ℕ) (d : List ℕ) (k u : ℕ) (r : SegmentRecord) → Sounds a d u → 24 * (k + 1) ≤ length d → Held r → ruleFrom a NoSegment (recordsOf k d) ≡ true → followsOf a (lastOf NoSegment (recordsOf k d)) r ≡ true → testOf a (sets d (24 * k) (recordBytes r)) (k + 1) ≡ sound
 sound-stored a d k u r s l b e f =
     let n : length (sets d (24 * k) (recordBytes r)) ≡ length d = length-sets d (24 * k) (recordBytes r) in
     sound-so a (sets d (24 * k) (recordBytes r)) (k + 1)
@@ -87,16 +86,8 @@ sound-stored a d k u r s l b e f =
       rule = rw (records-more k d r l b, rule-snoc a NoSegment (recordsOf k d) r, e, f);
     })
 
-pub sound-new : (a : ℕ) (d : List ℕ) (u : ℕ) → testOf a d u ≡ Sound → 24 * (u + 1) ≤ length d → newSegment (lastOf NoSegment (recordsOf u d)) .id < 2 ^ 64 → testOf a (sets d (24 * u) (recordBytes (newSegment (lastOf NoSegment (recordsOf u d))))) (u + 1) ≡ Sound
-sound-new a d u e l i =
-    let s = sound-says a d u e in
-    let t = lastOf NoSegment (recordsOf u d) in
-    let f = new-follows a t (sound-last a d u e) in
-    let g = follows-says a t (newSegment t) f in
-    sound-stored a d u u (newSegment t) s l (record { id = i; start = omega arith; length = omega arith }) (s .rule) f
-
 -- the last record at another length
-pub sound-grown : (a : ℕ) (d : List ℕ) (k : ℕ) (r : SegmentRecord) → Bytes d → testOf a d (k + 1) ≡ Sound → r .id ≡ recordAt (drop (24 * k) d) .id → r .start ≡ recordAt (drop (24 * k) d) .start → endOf r ≤ a → testOf a (sets d (24 * k) (recordBytes r)) (k + 1) ≡ Sound
+pub sound-grown : (a : ℕ) (d : List ℕ) (k : ℕ) (r : SegmentRecord) → Bytes d → testOf a d (k + 1) ≡ sound → r .id ≡ recordAt (drop (24 * k) d) .id → r .start ≡ recordAt (drop (24 * k) d) .start → endOf r ≤ a → testOf a (sets d (24 * k) (recordBytes r)) (k + 1) ≡ sound
 sound-grown a d k r b e i t l =
     let s = sound-says a d (k + 1) e in
     let q = recordAt (drop (24 * k) d) in

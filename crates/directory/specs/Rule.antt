@@ -2,10 +2,11 @@
 -- Assumes nothing.
 use mathlib.Core.Bool.{Bool, true, cond, _&&_}
 use mathlib.Core.List.{List, [], _∷_}
-use Prim.Native.Nat.{ℕ, _+_, _-_, _/_}
+use Prim.Native.Nat.{ℕ, _-_, _/_}
 use lib.Dec.{leb, ltb}
 use lib.ListN.{length}
-use Rattle.refusal.specs.declared.Refusal.the-variants.{InvalidBuffer, InvalidDirectory}
+use Rattle.refusal.specs.Number.{numberOf}
+use Rattle.refusal.specs.Answer.{Answer, refused, sound}
 use Rattle.directory.specs.declared.lent.Lent.the-variants.{Area, Directory}
 use Rattle.directory.specs.declared.record.SegmentRecord.{SegmentRecord}
 use Rattle.directory.specs.declared.rule.Last.{Last}
@@ -46,20 +47,15 @@ unfoldable pub directoryRule : (area : ℕ) → List ℕ → (used : ℕ) → Bo
 directoryRule area directory used =
     leb used (length directory / 24) && ruleFrom area NoSegment (recordsOf used directory)
 
+-- a test's answer in document 01's numbers
+abbrev pub testedAs : Tested → Answer (Unit {0})
+testedAs (Refused refusal) = refused (numberOf refusal)
+testedAs Sound = sound
+
 -- 1: "a buffer is over its most, or not whole records"; 2: "the directory breaks its rule";
 -- "The lowest number that applies is given"
-unfoldable pub testOf : (area : ℕ) → List ℕ → (used : ℕ) → Tested
+unfoldable pub testOf : (area : ℕ) → List ℕ → (used : ℕ) → Answer (Unit {0})
 testOf area directory used =
     cond (fitsOf Area area && fitsOf Directory (length directory))
-    (cond (directoryRule area directory used) Sound (Refused InvalidDirectory))
-    (Refused InvalidBuffer)
-
--- the last id and the last end
-unfoldable pub lastOf : Last → List SegmentRecord → Last
-lastOf last [] = last
-lastOf last (r ∷ rs) = lastOf (afterRecord r) rs
-
--- "id 1 at 0 for an empty directory, else last id plus one, at the last end"
-unfoldable pub newSegment : Last → SegmentRecord
-newSegment NoSegment = record { id = 1; start = 0; length = 0 }
-newSegment (Segment id end) = record { id = id + 1; start = end; length = 0 }
+    (cond (directoryRule area directory used) sound (refused 2))
+    (refused 1)

@@ -5,7 +5,7 @@ use refusal::Refusal;
 ghost use mathlib.Core.Path.{_≡_};
 ghost use Prim.Native.Nat.{_-_, _≤_};
 ghost use lib.Dec.{leb};
-ghost use Rattle.directory.specs.Rule.{liesOf, followsOf, directoryRule, testOf};
+ghost use Rattle.directory.specs.Rule.{liesOf, followsOf, directoryRule, testedAs, testOf};
 
 // What a record comes after: no segment, or the id and the end of the one before it.
 pub enum Last {
@@ -79,7 +79,7 @@ fn keeps_rule(area: u64, directory: &[u8], used: usize) -> bool
 
 // Refusals 1 and 2 of the area and the directory, which every call tests before it changes anything.
 pub fn test(area_len: usize, directory: &[u8], used: usize) -> Tested
-    ensures { λ r. ⌜ r ≡ testOf «area_len» (now (directory .entry)) used ⌝ }
+    ensures { λ r. ⌜ testedAs r ≡ testOf «area_len» (now (directory .entry)) used ⌝ }
 {
     if !Lent::Area.fits(area_len) {
         return Tested::Refused(Refusal::InvalidBuffer);

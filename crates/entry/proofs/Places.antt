@@ -3,18 +3,18 @@
 use mathlib.Core.Path.{_≡_, refl}
 use mathlib.Core.Bool.{Bool, true, false, cond}
 use mathlib.Core.List.{List}
-use Prim.Native.Nat.{ℕ, zero, suc, _+_, _-_, _^_, _<_, _≤_}
+use Prim.Native.Nat.{ℕ, _+_, _-_, _^_, _<_, _≤_}
 use native.Mathlib.Omega.{arith}
-use borrow.Author.Tests.{leb-true}
-use lib.Dec.{leb}
+use borrow.Author.Tests.{leb-true, eqb-true}
+use lib.Dec.{leb, eqb}
 use lib.ListN.{length}
 use Rattle.fields.specs.Le.{Bytes, numAt}
 use Rattle.fields.proofs.Numbers.{num-below}
 use Rattle.fields.proofs.Cases.{caseB, tests}
 use Rattle.utf8.specs.Grammar.{isUtf8}
-use Rattle.payload.specs.Kind.{byKind}
-use Rattle.entry.specs.Parts.{txOf}
-use Rattle.entry.specs.Decode.{bytesAt, endOf, partAt, ifUtf8, keyAt, then, insertAt, updateAt, deleteAt, decodeOf}
+use Rattle.payload.specs.Kind.{insertKind, updateKind, deleteKind, commitKind, abortKind, byKind}
+use Rattle.entry.specs.Parts.{txOf, timeOf, kindOf}
+use Rattle.entry.specs.Decode.{bytesAt, endOf, partAt, ifUtf8, keyAt, then, keyAndPart, updateAt, decodeOf}
 use Rattle.entry.specs.declared.Place.{Place}
 use Rattle.entry.specs.declared.WalEntry.{WalEntry}
 use Rattle.entry.specs.declared.WalEntry.the-variants.{Insert, Update, Delete, Commit, Abort}
@@ -23,9 +23,10 @@ use Rattle.entry.specs.declared.decoding.Decoded.the-variants.{Refused, 
 use Rattle.entry.specs.declared.decoding.Part.{Part}
 use Rattle.entry.specs.declared.decoding.Part.the-variants.{Fails, At}
 
--- a part that is found stands behind its length, and ends in the payload
+-- a part that is found: its length stands before it, and it ends in the payload
 pub record PartIs (s : List ℕ) (at : ℕ) (p : Place) : Type 0 where
   pub start : p .start ≡ at + 8
+  pub len : p .len ≡ numAt at 8 s
   pub end : endOf p ≤ length s
 
 pub part-says : (s : List ℕ) (at : ℕ) (p : Place) → partAt s at ≡ At p → PartIs s at p
@@ -35,27 +36,34 @@ part-says s at p e = told (leb 8 (length s - at)) refl (leb (numAt at 8 s) (leng
     told : (a : Bool) → leb 8 (length s - at) ≡ a → (b : Bool) → leb (numAt at 8 s) (length s - at - 8) ≡ b → cond a (cond b (At (record { start = at + 8; len = numAt at 8 s })) Fails) Fails ≡ At p → PartIs s at p
     told true h true k e =
         let place : record { start = at + 8; len = numAt at 8 s } ≡ p = cc in
-        rw (← place) (record { start = refl; end = omega (arith, tests) })
+        rw (← place) (record { start = refl; len = refl; end = omega (arith, tests) })
     told true h false k e = let z : _≡_ {A = ℕ} 0 1 = cc in absurd (omega arith)
     told false h b k e = let z : _≡_ {A = ℕ} 0 1 = cc in absurd (omega arith)
 
 pub part-within : (s : List ℕ) (at : ℕ) (p : Place) → partAt s at ≡ At p → endOf p ≤ length s
 part-within s at p e = part-says s at p e .end
 
-pub key-is-part : (s : List ℕ) (at : ℕ) (p : Place) → keyAt s at ≡ At p → partAt s at ≡ At p
+-- a key is a part that is UTF-8
+pub record KeyIs (s : List ℕ) (at : ℕ) (p : Place) : Type 0 where
+  pub part : PartIs s at p
+  pub utf8 : isUtf8 (bytesAt s p) ≡ true
+
+pub key-says : (s : List ℕ) (at : ℕ) (p : Place) → keyAt s at ≡ At p → KeyIs s at p
 unfolding keyAt
-key-is-part s at p e = told (partAt s at) e
+key-says s at p e = told (partAt s at) refl e
   where
-    told : (q : Part) → ifUtf8 s q ≡ At p → q ≡ At p
-    told Fails e = e
-    told (At q) e = utf8 (isUtf8 (bytesAt s q)) e
+    told : (q : Part) → partAt s at ≡ q → ifUtf8 s q ≡ At p → KeyIs s at p
+    told Fails f e = let z : _≡_ {A = ℕ} 0 1 = cc in absurd (omega arith)
+    told (At q) f e = utf8 (isUtf8 (bytesAt s q)) refl e
       where
-        utf8 : (t : Bool) → cond t (At q) Fails ≡ At p → At q ≡ At p
-        utf8 true e = e
-        utf8 false e = let z : _≡_ {A = ℕ} 0 1 = cc in absurd (omega arith)
+        utf8 : (t : Bool) → isUtf8 (bytesAt s q) ≡ t → cond t (At q) Fails ≡ At p → KeyIs s at p
+        utf8 true u e =
+            let same : q ≡ p = cc in
+            rw (← same) (record { part = part-says s at q f; utf8 = u })
+        utf8 false u e = let z : _≡_ {A = ℕ} 0 1 = cc in absurd (omega arith)
 
 pub key-within : (s : List ℕ) (at : ℕ) (p : Place) → keyAt s at ≡ At p → endOf p ≤ length s
-key-within s at p e = part-within s at p (key-is-part s at p e)
+key-within s at p e = key-says s at p e .part .end
 
 -- a part's bytes decide whether it is a key
 pub keyed : (s : List ℕ) (at : ℕ) (p : Place) (t : Bool) → partAt s at ≡ At p → isUtf8 (bytesAt s p) ≡ t → keyAt s at ≡ cond t (At p) Fails
@@ -64,19 +72,22 @@ keyed s at p t e u = rw (e, u)
 
 -- ---- a payload that is decoded
 
--- every part ends at or before n
-abbrev pub Within : ℕ → WalEntry → Type 0
-Within n (Insert tx time key value) = (endOf key ≤ n) × (endOf value ≤ n)
-Within n (Update tx time key old new) = (endOf key ≤ n) × (endOf old ≤ n) × (endOf new ≤ n)
-Within n (Delete tx time key old) = (endOf key ≤ n) × (endOf old ≤ n)
-Within n (Commit tx time) = Unit {0}
-Within n (Abort tx time) = Unit {0}
+-- the parts that the kind has, one behind the other; the last one ends where the entry does
+abbrev pub Laid : List ℕ → WalEntry → ℕ → Type 0
+Laid s (Insert tx time key value) used = KeyIs s 20 key × PartIs s (endOf key) value × (used ≡ endOf value)
+Laid s (Update tx time key old new) used =
+    KeyIs s 20 key × PartIs s (endOf key) old × PartIs s (endOf old) new × (used ≡ endOf new)
+Laid s (Delete tx time key old) used = KeyIs s 20 key × PartIs s (endOf key) old × (used ≡ endOf old)
+Laid s (Commit tx time) used = used ≡ 20
+Laid s (Abort tx time) used = used ≡ 20
 
 pub record DecodedIs (s : List ℕ) (e : WalEntry) (used : ℕ) : Type 0 where
   pub least : 20 ≤ used
   pub end : used ≤ length s
-  pub parts : Within used e
+  pub kind : numAt 0 4 s ≡ kindOf e
   pub tx : txOf e ≡ numAt 4 8 s
+  pub time : timeOf e ≡ numAt 12 8 s
+  pub laid : Laid s e used
 
 abbrev Says : List ℕ → Decoded → Type 0
 Says s Refused = Unit {0}
@@ -90,56 +101,64 @@ module _ (s : List ℕ) (go : Place → Decoded) where
       told Fails e = tt
       told (At p) e = next p (part-says s at p e)
 
-  then-key : (at : ℕ) → ((p : Place) → PartIs s at p → Says s (go p)) → Says s (then (keyAt s at) go)
+  then-key : (at : ℕ) → ((p : Place) → KeyIs s at p → Says s (go p)) → Says s (then (keyAt s at) go)
   then-key at next = told (keyAt s at) refl
     where
       told : (q : Part) → keyAt s at ≡ q → Says s (then q go)
       told Fails e = tt
-      told (At p) e = next p (part-says s at p (key-is-part s at p e))
+      told (At p) e = next p (key-says s at p e)
 
-module _ (s : List ℕ) (time : ℕ) where
-  insert-says : Says s (insertAt s (numAt 4 8 s) time)
-  unfolding insertAt
-  insert-says =
+module _ (s : List ℕ) where
+  insert-says : numAt 0 4 s ≡ insertKind → Says s (keyAndPart s (Insert (numAt 4 8 s) (numAt 12 8 s)))
+  unfolding keyAndPart
+  insert-says kind =
       then-key s _ 20
-      (λ key k. then-part s _ (endOf key) (λ value v. record { least = omega arith; end = v .end; parts = (omega arith, omega arith); tx = refl }))
+      (λ key k. then-part s _ (endOf key)
+      (λ value v. record { least = omega arith; end = v .end; kind = kind; tx = refl; time = refl; laid = (k, v, refl) }))
 
-  delete-says : Says s (deleteAt s (numAt 4 8 s) time)
-  unfolding deleteAt
-  delete-says =
+  delete-says : numAt 0 4 s ≡ deleteKind → Says s (keyAndPart s (Delete (numAt 4 8 s) (numAt 12 8 s)))
+  unfolding keyAndPart
+  delete-says kind =
       then-key s _ 20
-      (λ key k. then-part s _ (endOf key) (λ old o. record { least = omega arith; end = o .end; parts = (omega arith, omega arith); tx = refl }))
+      (λ key k. then-part s _ (endOf key)
+      (λ old o. record { least = omega arith; end = o .end; kind = kind; tx = refl; time = refl; laid = (k, o, refl) }))
 
-  update-says : Says s (updateAt s (numAt 4 8 s) time)
+  update-says : numAt 0 4 s ≡ updateKind → Says s (updateAt s (numAt 4 8 s) (numAt 12 8 s))
   unfolding updateAt
-  update-says =
+  update-says kind =
       then-key s _ 20
       (λ key k. then-part s _ (endOf key)
       (λ old o. then-part s _ (endOf old)
-      (λ new n. record { least = omega arith; end = n .end; parts = (omega arith, omega arith, omega arith); tx = refl })))
+      (λ new n. record { least = omega arith; end = n .end; kind = kind; tx = refl; time = refl; laid = (k, o, n, refl) })))
 
--- what holds of each of six holds of the one that a kind picks
-by-each : {A : Type 0} (P : A → Type 0) (k : ℕ) {i u d c a o : A} → P i → P u → P d → P c → P a → P o → P (byKind k i u d c a o)
+-- what holds of each of six, if the number is its kind's, holds of the one that a kind picks
+by-each : {A : Type 0} (P : A → Type 0) (k : ℕ) {i u d c a o : A}
+    → (k ≡ insertKind → P i) → (k ≡ updateKind → P u) → (k ≡ deleteKind → P d) → (k ≡ commitKind → P c) → (k ≡ abortKind → P a) → P o
+    → P (byKind k i u d c a o)
 unfolding byKind
-by-each P zero i u d c a o = i
-by-each P (suc zero) i u d c a o = u
-by-each P (suc (suc zero)) i u d c a o = d
-by-each P (suc (suc (suc zero))) i u d c a o = c
-by-each P (suc (suc (suc (suc zero)))) i u d c a o = a
-by-each P (suc (suc (suc (suc (suc k))))) i u d c a o = o
+by-each P k i u d c a o =
+    caseB (eqb k insertKind) (λ q. rw q (i (eqb-true k insertKind q)))
+    (λ q. rw q
+    (caseB (eqb k updateKind) (λ q. rw q (u (eqb-true k updateKind q)))
+    (λ q. rw q
+    (caseB (eqb k deleteKind) (λ q. rw q (d (eqb-true k deleteKind q)))
+    (λ q. rw q
+    (caseB (eqb k commitKind) (λ q. rw q (c (eqb-true k commitKind q)))
+    (λ q. rw q
+    (caseB (eqb k abortKind) (λ q. rw q (a (eqb-true k abortKind q)))
+    (λ q. rw q o)))))))))
 
 decode-says : (s : List ℕ) → Says s (decodeOf s)
 unfolding decodeOf
 decode-says s =
-    let time = numAt 12 8 s in
     caseB (leb 20 (length s))
     (λ q.
     let h : 20 ≤ length s = leb-true _ _ q in
     let marks : 20 ≤ 20 = omega arith in
     rw q
-    (by-each (Says s) (numAt 0 4 s) (insert-says s time) (update-says s time) (delete-says s time)
-    (record { least = marks; end = h; parts = tt; tx = refl })
-    (record { least = marks; end = h; parts = tt; tx = refl })
+    (by-each (Says s) (numAt 0 4 s) (insert-says s) (update-says s) (delete-says s)
+    (λ kind. record { least = marks; end = h; kind = kind; tx = refl; time = refl; laid = refl })
+    (λ kind. record { least = marks; end = h; kind = kind; tx = refl; time = refl; laid = refl })
     tt))
     (λ q. rw q tt)
 

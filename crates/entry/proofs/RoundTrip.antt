@@ -10,21 +10,20 @@ use native.Mathlib.Omega.{arith}
 use borrow.Author.Tests.{le-leb, leb-true}
 use lib.Dec.{leb, lit<}
 use lib.ListN.{length, drop, length-append}
-use lib.Seq.{take-at, drop-at}
+use lib.Seq.{sets, take-at, drop-at}
 use Rattle.fields.specs.Le.{leBytes, numAt}
 use Rattle.fields.proofs.Numbers.{length-bytes, num-front, num-skip}
 use Rattle.fields.proofs.Stores.{sets-front}
 use Rattle.utf8.specs.Grammar.{isUtf8}
 use Rattle.payload.specs.Kind.{byKind}
-use Rattle.payload.specs.Content.{Content, insert, update, delete, commit, abort, kindNumber, fixedBytes, partBytes, payloadOf, keyFits, valueFits, wellFormed}
-use Rattle.payload.specs.Encode.{putAnswer, putTarget, EncodeIs}
+use Rattle.payload.specs.Content.{Content, insert, update, delete, commit, abort, kindNumber, fixedBytes, partBytes, payloadOf, keyFits, valueFits, wellFormed, readable}
+use Rattle.payload.specs.Encode.{Encoding, encoding, putOf, encodeOf}
 use Rattle.payload.specs.declared.Encoded.the-variants.{Written, NotWellFormed, NoRoom}
-use Rattle.entry.specs.Parts.{txOf, timeOf, kindOf}
-use Rattle.entry.specs.Decode.{bytesAt, endOf, partAt, keyAt, then, insertAt, updateAt, deleteAt, bodyAt, decodeOf, contentAt}
+use Rattle.entry.specs.Parts.{txOf, kindOf}
+use Rattle.entry.specs.Decode.{bytesAt, partAt, keyAt, keyAndPart, updateAt, bodyAt, decodeOf, contentAt}
 use Rattle.entry.specs.declared.Place.{Place}
 use Rattle.entry.specs.declared.WalEntry.{WalEntry}
 use Rattle.entry.specs.declared.WalEntry.the-variants.{Insert, Update, Delete, Commit, Abort}
-use Rattle.entry.specs.declared.decoding.Decoded.{Decoded}
 use Rattle.entry.specs.declared.decoding.Decoded.the-variants.{Entry}
 use Rattle.entry.specs.declared.decoding.Part.the-variants.{At}
 use Rattle.payload.proofs.Laws.{length-fixed, length-part, limits}
@@ -77,13 +76,18 @@ decode-fixed kind tx time rest hk hx ht =
 
 -- ---- the whole
 
--- what can be read back: a key that is UTF-8, and parts whose lengths eight bytes hold
-abbrev pub Readable : Content → Type 0
-Readable (insert key value) = (isUtf8 key ≡ true) × (length key < 2 ^ 64) × (length value < 2 ^ 64)
-Readable (update key old new) = (isUtf8 key ≡ true) × (length key < 2 ^ 64) × (length old < 2 ^ 64) × (length new < 2 ^ 64)
-Readable (delete key old) = (isUtf8 key ≡ true) × (length key < 2 ^ 64) × (length old < 2 ^ 64)
-Readable commit = Unit {0}
-Readable abort = Unit {0}
+-- every part's length is one that eight bytes hold
+abbrev pub Short : Content → Type 0
+Short (insert key value) = (length key < 2 ^ 64) × (length value < 2 ^ 64)
+Short (update key old new) = (length key < 2 ^ 64) × (length old < 2 ^ 64) × (length new < 2 ^ 64)
+Short (delete key old) = (length key < 2 ^ 64) × (length old < 2 ^ 64)
+Short commit = Unit {0}
+Short abort = Unit {0}
+
+-- what can be read back
+pub record Readable (content : Content) : Type 0 where
+  pub utf8 : readable content ≡ true
+  pub short : Short content
 
 -- where the parts stand
 abbrev pub placed : ℕ → ℕ → Content → WalEntry
@@ -122,26 +126,27 @@ module _ (kind tx time : ℕ) (key value rest : List ℕ) where
   value-bytes-of-two : bytesAt two (behind (28 + length key) value) ≡ value
   value-bytes-of-two = later-bytes (fixedBytes kind tx time) (partBytes key) value rest (28 + length key) second-at
 
-  opened-two : (go : Place → Place → Decoded) → isUtf8 key ≡ true → length key < 2 ^ 64 → length value < 2 ^ 64
-      → then (keyAt two 20) (λ k. then (partAt two (endOf k)) (λ v. go k v)) ≡ go (behind 20 key) (behind (28 + length key) value)
-  opened-two go u k v = rw (key-of-two u k, value-of-two v)
+  read-two : (entry : Place → Place → WalEntry) → isUtf8 key ≡ true → length key < 2 ^ 64 → length value < 2 ^ 64
+      → keyAndPart two entry ≡ Entry (entry (behind 20 key) (behind (28 + length key) value)) (28 + length key + 8 + length value)
+  unfolding keyAndPart
+  read-two entry u k v = rw (key-of-two u k, value-of-two v)
 
   length-two : length (fixedBytes kind tx time ++ (partBytes key ++ partBytes value)) ≡ 28 + length key + 8 + length value
   length-two = rw (length-append, length-append, length-part, length-part, length-fixed) (omega arith)
 
 module _ (tx time : ℕ) (hx : tx < 2 ^ 64) (ht : time < 2 ^ 64) (rest : List ℕ) where
   pub decode-payload : (content : Content) → Readable content → decodeOf (payloadOf tx time content ++ rest) ≡ Entry (placed tx time content) (length (payloadOf tx time content))
-  unfolding payloadOf byKind insertAt updateAt deleteAt
+  unfolding payloadOf byKind updateAt readable
   decode-payload (insert key value) r =
       let f = fixedBytes 0 tx time in
       let e : (f ++ (partBytes key ++ partBytes value)) ++ rest ≡ two 0 tx time key value rest = simp append-assoc in
       rw (length-two 0 tx time key value rest, e, decode-fixed 0 tx time (partBytes key ++ (partBytes value ++ rest)) (lit< tt) hx ht)
-      (opened-two 0 tx time key value rest (λ k v. Entry (Insert tx time k v) (endOf v)) (r .0) (r .1) (r .2))
+      (read-two 0 tx time key value rest (Insert tx time) (r .utf8) (r .short .0) (r .short .1))
   decode-payload (delete key old) r =
       let f = fixedBytes 2 tx time in
       let e : (f ++ (partBytes key ++ partBytes old)) ++ rest ≡ two 2 tx time key old rest = simp append-assoc in
       rw (length-two 2 tx time key old rest, e, decode-fixed 2 tx time (partBytes key ++ (partBytes old ++ rest)) (lit< tt) hx ht)
-      (opened-two 2 tx time key old rest (λ k v. Entry (Delete tx time k v) (endOf v)) (r .0) (r .1) (r .2))
+      (read-two 2 tx time key old rest (Delete tx time) (r .utf8) (r .short .0) (r .short .1))
   decode-payload (update key old new) r =
       let f = fixedBytes 1 tx time in
       let e : (f ++ (partBytes key ++ (partBytes old ++ partBytes new))) ++ rest ≡ two 1 tx time key old (partBytes new ++ rest) = simp append-assoc in
@@ -149,8 +154,8 @@ module _ (tx time : ℕ) (hx : tx < 2 ^ 64) (ht : time < 2 ^ 64) (rest : List �
       rw (length-append, length-append, length-append, length-part, length-part, length-part, length-fixed) (omega arith) in
       let third : partAt (two 1 tx time key old (partBytes new ++ rest)) (28 + length key + 8 + length old) ≡ At (behind (28 + length key + 8 + length old) new) =
       rw (← append-assoc (partBytes key) (partBytes old) (partBytes new ++ rest))
-      (later-read f (partBytes key ++ partBytes old) new rest (28 + length key + 8 + length old) (length-two 1 tx time key old rest) (r .3)) in
-      rw (n, e, decode-fixed 1 tx time (partBytes key ++ (partBytes old ++ (partBytes new ++ rest))) (lit< tt) hx ht, key-of-two 1 tx time key old (partBytes new ++ rest) (r .0) (r .1), value-of-two 1 tx time key old (partBytes new ++ rest) (r .2), third)
+      (later-read f (partBytes key ++ partBytes old) new rest (28 + length key + 8 + length old) (length-two 1 tx time key old rest) (r .short .2)) in
+      rw (n, e, decode-fixed 1 tx time (partBytes key ++ (partBytes old ++ (partBytes new ++ rest))) (lit< tt) hx ht, key-of-two 1 tx time key old (partBytes new ++ rest) (r .utf8) (r .short .0), value-of-two 1 tx time key old (partBytes new ++ rest) (r .short .1), third)
   decode-payload commit r = rw (append-nil, decode-fixed 3 tx time rest (lit< tt) hx ht, length-fixed)
   decode-payload abort r = rw (append-nil, decode-fixed 4 tx time rest (lit< tt) hx ht, length-fixed)
 
@@ -180,34 +185,27 @@ unfolding keyFits
 key-utf8 key others e =
     and-eq-true-iff (leb (length key) 64) (isUtf8 key) .0 (and-eq-true-iff (keyFits key) others .0 e .0) .1
 
-pub readable : (content : Content) → wellFormed content ≡ true → Readable content
-unfolding wellFormed
-readable (insert key value) e =
+pub well-formed-readable : (content : Content) → wellFormed content ≡ true → Readable content
+unfolding wellFormed readable
+well-formed-readable (insert key value) e =
     let w = limits (insert key value) e in
-    (key-utf8 key (valueFits value) e, omega arith, omega arith)
-readable (update key old new) e =
+    record { utf8 = key-utf8 key (valueFits value) e; short = (omega arith, omega arith) }
+well-formed-readable (update key old new) e =
     let w = limits (update key old new) e in
-    (key-utf8 key (valueFits old && valueFits new) e, omega arith, omega arith, omega arith)
-readable (delete key old) e =
+    record { utf8 = key-utf8 key (valueFits old && valueFits new) e; short = (omega arith, omega arith, omega arith) }
+well-formed-readable (delete key old) e =
     let w = limits (delete key old) e in
-    (key-utf8 key (valueFits old) e, omega arith, omega arith)
-readable commit e = tt
-readable abort e = tt
+    record { utf8 = key-utf8 key (valueFits old) e; short = (omega arith, omega arith) }
+well-formed-readable commit e = record { utf8 = refl; short = tt }
+well-formed-readable abort e = record { utf8 = refl; short = tt }
 
--- the decoded entry's number, time and kind are the ones that were written
+-- the decoded entry's number and kind are the ones that were written
 pub placed-tx : (tx time : ℕ) (content : Content) → txOf (placed tx time content) ≡ tx
 placed-tx tx time (insert key value) = refl
 placed-tx tx time (update key old new) = refl
 placed-tx tx time (delete key old) = refl
 placed-tx tx time commit = refl
 placed-tx tx time abort = refl
-
-pub placed-time : (tx time : ℕ) (content : Content) → timeOf (placed tx time content) ≡ time
-placed-time tx time (insert key value) = refl
-placed-time tx time (update key old new) = refl
-placed-time tx time (delete key old) = refl
-placed-time tx time commit = refl
-placed-time tx time abort = refl
 
 pub placed-kind : (tx time : ℕ) (content : Content) → kindOf (placed tx time content) ≡ kindNumber content
 placed-kind tx time (insert key value) = refl
@@ -217,29 +215,33 @@ placed-kind tx time commit = refl
 placed-kind tx time abort = refl
 
 -- ---- encode, then decode: what `encode` says that it wrote is the payload, nothing else of the target changed, and decoding the target gives the entry back
-module _ (content : Content) (tx time n : ℕ) (before after : List ℕ) (e : EncodeIs (some content) tx time before after (Written n)) where
+module _ (content : Content) (tx time n : ℕ) (before after : List ℕ) (e : encoding (Written n) after ≡ encodeOf (some content) tx time before) where
   abbrev payload : List ℕ
   payload = payloadOf tx time content
 
-  told : (w f : Bool) → wellFormed content ≡ w → leb (length payload) (length before) ≡ f → Written n ≡ cond w (cond f (Written (length payload)) NoRoom) NotWellFormed
-      → (wellFormed content ≡ true) × (length payload ≤ length before) × (n ≡ length payload)
-  told true true p q a = (p, leb-true (length payload) (length before) q, cc)
-  told true false p q a = let z : _≡_ {A = ℕ} 0 1 = cc in absurd (omega arith)
-  told false f p q a = let z : _≡_ {A = ℕ} 0 1 = cc in absurd (omega arith)
+  told : (w f : Bool) → wellFormed content ≡ w → leb (length payload) (length before) ≡ f
+      → encoding (Written n) after ≡ cond w (cond f (encoding (Written (length payload)) (sets before 0 payload)) (encoding NoRoom before)) (encoding NotWellFormed before)
+      → (wellFormed content ≡ true) × (length payload ≤ length before) × (n ≡ length payload) × (after ≡ sets before 0 payload)
+  told true true p q a =
+      let b : Written n ≡ Written (length payload) = ap (λ (x : Encoding). x .answer) a in
+      (p, leb-true (length payload) (length before) q, cc, ap (λ (x : Encoding). x .target) a)
+  told true false p q a =
+      let b : Written n ≡ NoRoom = ap (λ (x : Encoding). x .answer) a in
+      let z : _≡_ {A = ℕ} 0 1 = cc in absurd (omega arith)
+  told false f p q a =
+      let b : Written n ≡ NotWellFormed = ap (λ (x : Encoding). x .answer) a in
+      let z : _≡_ {A = ℕ} 0 1 = cc in absurd (omega arith)
 
-  written : (wellFormed content ≡ true) × (length payload ≤ length before) × (n ≡ length payload)
-  unfolding putAnswer
-  written = told (wellFormed content) (leb (length payload) (length before)) refl refl (e .answer)
+  written : (wellFormed content ≡ true) × (length payload ≤ length before) × (n ≡ length payload) × (after ≡ sets before 0 payload)
+  unfolding encodeOf putOf
+  written = told (wellFormed content) (leb (length payload) (length before)) refl refl e
 
   pub encode-writes : after ≡ payload ++ drop n before
-  unfolding putTarget
   encode-writes =
-      rw (written .0, le-leb (length payload) (length before) (written .1)) at (e .target)
-      ∙ sets-front before payload (written .1)
-      ∙ ap (λ k. payload ++ drop k before) (sym (written .2))
+      written .3 ∙ sets-front before payload (written .1) ∙ ap (λ k. payload ++ drop k before) (sym (written .2))
 
   pub encode-decode : tx < 2 ^ 64 → time < 2 ^ 64 → (decodeOf after ≡ Entry (placed tx time content) n) × (contentAt after (placed tx time content) ≡ content)
   encode-decode hx ht = (
-    ap decodeOf encode-writes ∙ decode-payload tx time hx ht (drop n before) content (readable content (written .0)) ∙ ap (Entry (placed tx time content)) (sym (written .2)),
+    ap decodeOf encode-writes ∙ decode-payload tx time hx ht (drop n before) content (well-formed-readable content (written .0)) ∙ ap (Entry (placed tx time content)) (sym (written .2)),
     ap (λ s. contentAt s (placed tx time content)) encode-writes ∙ content-payload tx time hx ht (drop n before) content,
   )

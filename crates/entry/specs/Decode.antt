@@ -9,7 +9,7 @@ use lib.ListN.{length, take, drop}
 use Rattle.fields.specs.Le.{numAt}
 use Rattle.utf8.specs.Grammar.{isUtf8}
 use Rattle.payload.specs.Kind.{byKind}
-use Rattle.payload.specs.Content.{Content, insert, update, delete, commit, abort}
+use Rattle.payload.specs.Content.{Content, insert, update, delete, commit, abort, fixedLength}
 use Rattle.entry.specs.declared.Place.{Place}
 use Rattle.entry.specs.declared.WalEntry.{WalEntry}
 use Rattle.entry.specs.declared.WalEntry.the-variants.{Insert, Update, Delete, Commit, Abort}
@@ -44,29 +44,26 @@ abbrev pub then : Part → (Place → Decoded) → Decoded
 then Fails go = Refused
 then (At p) go = go p
 
--- "Insert key, value; Update key, old value, new value; Delete key, old value", behind the 20 bytes of kind, tx number and timestamp
-unfoldable pub insertAt : List ℕ → ℕ → ℕ → Decoded
-insertAt s tx time =
-    then (keyAt s 20) (λ key. then (partAt s (endOf key)) (λ value. Entry (Insert tx time key value) (endOf value)))
+-- "Insert key, value", "Delete key, old value": a key, and one part behind it
+unfoldable pub keyAndPart : List ℕ → (Place → Place → WalEntry) → Decoded
+keyAndPart s entry =
+    then (keyAt s fixedLength) (λ key. then (partAt s (endOf key)) (λ part. Entry (entry key part) (endOf part)))
 
+-- "Update key, old value, new value"
 unfoldable pub updateAt : List ℕ → ℕ → ℕ → Decoded
 updateAt s tx time =
-    then (keyAt s 20) (λ key. then (partAt s (endOf key)) (λ old. then (partAt s (endOf old)) (λ new. Entry (Update tx time key old new) (endOf new))))
-
-unfoldable pub deleteAt : List ℕ → ℕ → ℕ → Decoded
-deleteAt s tx time =
-    then (keyAt s 20) (λ key. then (partAt s (endOf key)) (λ old. Entry (Delete tx time key old) (endOf old)))
+    then (keyAt s fixedLength) (λ key. then (partAt s (endOf key)) (λ old. then (partAt s (endOf old)) (λ new. Entry (Update tx time key old new) (endOf new))))
 
 abbrev pub bodyAt : List ℕ → (kind tx time : ℕ) → Decoded
 bodyAt s kind tx time =
-    byKind kind (insertAt s tx time) (updateAt s tx time) (deleteAt s tx time)
-    (Entry (Commit tx time) 20)
-    (Entry (Abort tx time) 20)
+    byKind kind (keyAndPart s (Insert tx time)) (updateAt s tx time) (keyAndPart s (Delete tx time))
+    (Entry (Commit tx time) fixedLength)
+    (Entry (Abort tx time) fixedLength)
     Refused
 
--- "a 4-byte kind, tx number, timestamp; then" the parts that the kind has
+-- "a 4-byte kind .., tx number, timestamp; then .." the parts that the kind has
 unfoldable pub decodeOf : List ℕ → Decoded
-decodeOf s = cond (leb 20 (length s)) (bodyAt s (numAt 0 4 s) (numAt 4 8 s) (numAt 12 8 s)) Refused
+decodeOf s = cond (leb fixedLength (length s)) (bodyAt s (numAt 0 4 s) (numAt 4 8 s) (numAt 12 8 s)) Refused
 
 -- what a decoded entry says, read off its payload
 unfoldable pub contentAt : List ℕ → WalEntry → Content

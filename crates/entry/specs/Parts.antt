@@ -1,7 +1,9 @@
 -- What the methods of `WalEntry` answer.
 -- Assumes nothing.
 use Prim.Native.Nat.{ℕ}
-use mathlib.Core.Bool.{Bool, true, false}
+use mathlib.Core.Bool.{Bool}
+use lib.Dec.{eqb}
+use Rattle.payload.specs.Kind.{insertKind, updateKind, deleteKind, commitKind, abortKind}
 use Rattle.entry.specs.declared.WalEntry.{WalEntry}
 use Rattle.entry.specs.declared.WalEntry.the-variants.{Insert, Update, Delete, Commit, Abort}
 
@@ -19,24 +21,15 @@ timeOf (Delete tx time key old) = time
 timeOf (Commit tx time) = time
 timeOf (Abort tx time) = time
 
--- 0 Insert, 1 Update, 2 Delete, 3 Commit, 4 Abort
 abbrev pub kindOf : WalEntry → ℕ
-kindOf (Insert tx time key value) = 0
-kindOf (Update tx time key old new) = 1
-kindOf (Delete tx time key old) = 2
-kindOf (Commit tx time) = 3
-kindOf (Abort tx time) = 4
+kindOf (Insert tx time key value) = insertKind
+kindOf (Update tx time key old new) = updateKind
+kindOf (Delete tx time key old) = deleteKind
+kindOf (Commit tx time) = commitKind
+kindOf (Abort tx time) = abortKind
 
 abbrev pub isCommit : WalEntry → Bool
-isCommit (Insert tx time key value) = false
-isCommit (Update tx time key old new) = false
-isCommit (Delete tx time key old) = false
-isCommit (Commit tx time) = true
-isCommit (Abort tx time) = false
+isCommit entry = eqb (kindOf entry) commitKind
 
 abbrev pub isAbort : WalEntry → Bool
-isAbort (Insert tx time key value) = false
-isAbort (Update tx time key old new) = false
-isAbort (Delete tx time key old) = false
-isAbort (Commit tx time) = false
-isAbort (Abort tx time) = true
+isAbort entry = eqb (kindOf entry) abortKind

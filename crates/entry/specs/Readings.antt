@@ -3,15 +3,18 @@
 use mathlib.Core.Path.{_≡_, refl}
 use mathlib.Core.Bool.{true, false}
 use mathlib.Core.List.{List, [], _∷_, _++_}
+use mathlib.Core.Option.{some}
 use Prim.Native.Nat.{ℕ}
 use lib.ListN.{length, replicate}
 use Rattle.fields.specs.Le.{leOf, leBytes}
 use Rattle.crc32.specs.Crc.{bitStep, bitSteps, byteStep, register, crc32Of}
 use Rattle.header.specs.Header.{headerOf, headerBytes}
 use Rattle.payload.specs.Kind.{byKind}
-use Rattle.payload.specs.Content.{insert, commit, fixedBytes, partBytes, payloadOf, keyFits, valueFits}
+use Rattle.payload.specs.Content.{insert, commit, fixedBytes, partBytes, payloadOf, keyFits, valueFits, wellFormed}
+use Rattle.payload.specs.Encode.{asked, encoding, putOf, encodeOf}
+use Rattle.payload.specs.declared.Encoded.the-variants.{Written, NotWellFormed, NoRoom}
 use Rattle.utf8.specs.Grammar.{isUtf8, completes, any, after, begun, utf8-char, utf8-1, utf8-2, utf8-3, utf8-4, tail}
-use Rattle.entry.specs.Decode.{partAt, decodeOf, insertAt, keyAt}
+use Rattle.entry.specs.Decode.{partAt, decodeOf, keyAndPart, keyAt}
 use Rattle.entry.specs.declared.WalEntry.the-variants.{Commit}
 use Rattle.entry.specs.declared.decoding.Decoded.the-variants.{Refused, Entry}
 
@@ -26,6 +29,14 @@ commit-seven = refl
 commit-seven-whole : length (headerBytes (headerOf commitSeven) ++ commitSeven) ≡ 33
 unfolding commitSeven headerBytes headerOf leBytes crc32Of register byteStep bitSteps bitStep
 commit-seven-whole = refl
+
+-- in a target of 21 bytes and one of 19; and a kind over 4
+commit-seven-put :
+    (encodeOf (some commit) 7 1 (replicate 21 9) ≡ encoding (Written 20) (commitSeven ++ 9 ∷ []))
+    × (encodeOf (some commit) 7 1 (replicate 19 9) ≡ encoding NoRoom (replicate 19 9))
+    × (encodeOf (asked 5 [] [] []) 7 1 (replicate 21 9) ≡ encoding NotWellFormed (replicate 21 9))
+unfolding commitSeven encodeOf putOf asked byKind wellFormed payloadOf fixedBytes leBytes
+commit-seven-put = (refl, refl, refl)
 
 commit-seven-back : decodeOf commitSeven ≡ Entry (Commit 7 1) 20
 unfolding commitSeven decodeOf leOf byKind
@@ -52,8 +63,13 @@ too-short = refl
 
 -- a key's length of 2^64 - 1
 endless-key : decodeOf (replicate 20 0 ++ (replicate 8 255 ++ (97 ∷ []))) ≡ Refused
-unfolding decodeOf leOf byKind insertAt keyAt partAt
+unfolding decodeOf leOf byKind keyAndPart keyAt partAt
 endless-key = refl
+
+-- a key that is not UTF-8
+key-not-utf8 : decodeOf (payloadOf 1 5 (insert (255 ∷ []) (9 ∷ []))) ≡ Refused
+unfolding payloadOf fixedBytes partBytes leBytes decodeOf leOf byKind keyAndPart keyAt partAt isUtf8 completes any after begun utf8-char utf8-1 utf8-2 utf8-3 utf8-4 tail
+key-not-utf8 = refl
 
 -- "Key of 64 and value of 252 fit; 65 and 253 are refused."
 value-252 : valueFits (replicate 252 0) ≡ true

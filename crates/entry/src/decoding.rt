@@ -2,10 +2,19 @@
 use super::Place;
 use super::WalEntry;
 use payload::FIXED;
+use payload::LENGTH;
+use payload::kind::ABORT;
+use payload::kind::COMMIT;
+use payload::kind::DELETE;
+use payload::kind::INSERT;
+use payload::kind::UPDATE;
 ghost use mathlib.Core.Path.{_≡_};
+ghost use mathlib.Core.Bool.{cond};
 ghost use Prim.Native.Nat.{_≤_};
 ghost use lib.ListN.{length};
-ghost use Rattle.entry.specs.Decode.{partAt, keyAt, insertAt, updateAt, deleteAt, decodeOf};
+ghost use Rattle.payload.specs.Content.{fixedLength};
+ghost use Rattle.entry.specs.declared.WalEntry.the-variants.{Insert, Delete};
+ghost use Rattle.entry.specs.Decode.{partAt, keyAt, keyAndPart, updateAt, decodeOf};
 
 // A refusal is unnumbered. `used` is how many bytes the entry took: bytes left over are allowed.
 pub enum Decoded {
@@ -24,14 +33,17 @@ fn part_at(payload: &[u8], at: usize) -> Part
     ensures { λ r. ⌜ r ≡ partAt (now (payload .entry)) at ⌝ }
 {
     let left = payload.len() - at;
-    if left < 8 {
+    if left < LENGTH {
         return Part::Fails;
     }
     let len = fields::get_u64(payload, at) as usize;
-    if left - 8 < len {
+    if left - LENGTH < len {
         return Part::Fails;
     }
-    Part::At(Place { start: at + 8, len })
+    Part::At(Place {
+        start: at + LENGTH,
+        len,
+    })
 }
 
 fn key_at(payload: &[u8], at: usize) -> Part
@@ -50,9 +62,10 @@ fn key_at(payload: &[u8], at: usize) -> Part
     }
 }
 
-fn insert(payload: &[u8], tx_id: u64, timestamp: u64) -> Decoded
-    requires { ⌜ 20 ≤ length (now payload) ⌝ }
-    ensures { λ r. ⌜ r ≡ insertAt (now (payload .entry)) «tx_id» timestamp ⌝ }
+// A delete's key and old value, or an insert's key and value.
+fn key_and_part(payload: &[u8], deletes: bool, tx_id: u64, timestamp: u64) -> Decoded
+    requires { ⌜ fixedLength ≤ length (now payload) ⌝ }
+    ensures { λ r. ⌜ r ≡ keyAndPart (now (payload .entry)) (cond deletes (Delete «tx_id» timestamp) (Insert «tx_id» timestamp)) ⌝ }
 {
     let Part::At(key) = key_at(payload, FIXED) else {
         return Decoded::Refused;
@@ -60,19 +73,27 @@ fn insert(payload: &[u8], tx_id: u64, timestamp: u64) -> Decoded
     let Part::At(value) = part_at(payload, key.start + key.len) else {
         return Decoded::Refused;
     };
-    Decoded::Entry {
-        entry: WalEntry::Insert {
+    let used = value.start + value.len;
+    if deletes {
+        let entry = WalEntry::Delete {
             tx_id,
             timestamp,
             key,
-            value,
-        },
-        used: value.start + value.len,
+            old_value: value,
+        };
+        return Decoded::Entry { entry, used };
     }
+    let entry = WalEntry::Insert {
+        tx_id,
+        timestamp,
+        key,
+        value,
+    };
+    Decoded::Entry { entry, used }
 }
 
 fn update(payload: &[u8], tx_id: u64, timestamp: u64) -> Decoded
-    requires { ⌜ 20 ≤ length (now payload) ⌝ }
+    requires { ⌜ fixedLength ≤ length (now payload) ⌝ }
     ensures { λ r. ⌜ r ≡ updateAt (now (payload .entry)) «tx_id» timestamp ⌝ }
 {
     let Part::At(key) = key_at(payload, FIXED) else {
@@ -96,27 +117,6 @@ fn update(payload: &[u8], tx_id: u64, timestamp: u64) -> Decoded
     }
 }
 
-fn delete(payload: &[u8], tx_id: u64, timestamp: u64) -> Decoded
-    requires { ⌜ 20 ≤ length (now payload) ⌝ }
-    ensures { λ r. ⌜ r ≡ deleteAt (now (payload .entry)) «tx_id» timestamp ⌝ }
-{
-    let Part::At(key) = key_at(payload, FIXED) else {
-        return Decoded::Refused;
-    };
-    let Part::At(old_value) = part_at(payload, key.start + key.len) else {
-        return Decoded::Refused;
-    };
-    Decoded::Entry {
-        entry: WalEntry::Delete {
-            tx_id,
-            timestamp,
-            key,
-            old_value,
-        },
-        used: old_value.start + old_value.len,
-    }
-}
-
 pub fn decode(payload: &[u8]) -> Decoded
     ensures { λ r. ⌜ r ≡ decodeOf (now (payload .entry)) ⌝ }
 {
@@ -127,14 +127,14 @@ pub fn decode(payload: &[u8]) -> Decoded
     let tx_id = fields::get_u64(payload, 4);
     let timestamp = fields::get_u64(payload, 12);
     match kind {
-        0 => insert(payload, tx_id, timestamp),
-        1 => update(payload, tx_id, timestamp),
-        2 => delete(payload, tx_id, timestamp),
-        3 => Decoded::Entry {
+        INSERT => key_and_part(payload, false, tx_id, timestamp),
+        UPDATE => update(payload, tx_id, timestamp),
+        DELETE => key_and_part(payload, true, tx_id, timestamp),
+        COMMIT => Decoded::Entry {
             entry: WalEntry::Commit { tx_id, timestamp },
             used: FIXED,
         },
-        4 => Decoded::Entry {
+        ABORT => Decoded::Entry {
             entry: WalEntry::Abort { tx_id, timestamp },
             used: FIXED,
         },

@@ -1,6 +1,11 @@
 // The entry format. The header and the writing of a payload have crates of their own and are handed on here.
 ghost use mathlib.Core.Path.{_≡_};
 ghost use Rattle.entry.specs.Parts.{txOf, timeOf, kindOf, isCommit, isAbort};
+use payload::kind::ABORT;
+use payload::kind::COMMIT;
+use payload::kind::DELETE;
+use payload::kind::INSERT;
+use payload::kind::UPDATE;
 
 mod decoding;
 
@@ -11,7 +16,7 @@ pub use payload::Encoded;
 pub use payload::encode;
 pub use payload::well_formed;
 
-// Where a key or a value stands in its payload.
+// A stretch of bytes: of a key or a value in its payload, of a payload in its segment.
 pub struct Place {
     pub start: usize,
     pub len: usize,
@@ -77,35 +82,23 @@ impl WalEntry {
         ensures { λ r. ⌜ r ≡ kindOf self ⌝ }
     {
         match self {
-            WalEntry::Insert { .. } => 0,
-            WalEntry::Update { .. } => 1,
-            WalEntry::Delete { .. } => 2,
-            WalEntry::Commit { .. } => 3,
-            WalEntry::Abort { .. } => 4,
+            WalEntry::Insert { .. } => INSERT as u8,
+            WalEntry::Update { .. } => UPDATE as u8,
+            WalEntry::Delete { .. } => DELETE as u8,
+            WalEntry::Commit { .. } => COMMIT as u8,
+            WalEntry::Abort { .. } => ABORT as u8,
         }
     }
 
     pub fn is_commit(self) -> bool
         ensures { λ r. ⌜ r ≡ isCommit self ⌝ }
     {
-        match self {
-            WalEntry::Insert { .. } => false,
-            WalEntry::Update { .. } => false,
-            WalEntry::Delete { .. } => false,
-            WalEntry::Commit { .. } => true,
-            WalEntry::Abort { .. } => false,
-        }
+        self.kind() as u64 == COMMIT
     }
 
     pub fn is_abort(self) -> bool
         ensures { λ r. ⌜ r ≡ isAbort self ⌝ }
     {
-        match self {
-            WalEntry::Insert { .. } => false,
-            WalEntry::Update { .. } => false,
-            WalEntry::Delete { .. } => false,
-            WalEntry::Commit { .. } => false,
-            WalEntry::Abort { .. } => true,
-        }
+        self.kind() as u64 == ABORT
     }
 }

@@ -10,27 +10,26 @@ use lib.Dec.{leb}
 use lib.ListN.{length, length-append}
 use lib.Seq.{length-sets, append-snoc}
 use Rattle.fields.proofs.Cases.{caseB, tests}
-use Rattle.records.specs.Dense.{dense, recordsOf}
+use Rattle.records.specs.Dense.{dense, recordsOf, All}
 use Rattle.records.specs.Halving.{foundIn}
 use Rattle.records.specs.declared.Found.{Found}
 use Rattle.records.specs.declared.Found.the-variants.{At, Gap}
-use Rattle.records.proofs.Dense.{All, dense-none, dense-length, dense-added, records-back}
-use Rattle.lists.specs.Entries.{entryRecordAt, entryRecordBytes, highestIn}
+use Rattle.records.proofs.Dense.{dense-none, dense-length, dense-added, records-back}
+use Rattle.lists.specs.Entries.{entryRecordAt, entryRecordBytes, highestIn, EntryFits}
 use Rattle.lists.specs.Transactions.{transactionAt, transactionBytes, note, noteAll, transactionsOf}
-use Rattle.lists.specs.Tally.{fullOf}
-use Rattle.lists.specs.Admit.{Noted, orderIn, beginOf, noteAs, noteOf, noteIf, Book, withEntry, admitOf, admitAll, emptied, filled}
+use Rattle.lists.specs.Admit.{Ledger, orderIn, beginOf, noteBy, noteOf, noteIf, Book, withEntry, admitOf, admitAll, emptied, filled, fullOf}
 use Rattle.lists.specs.declared.admit.Full.{Full}
 use Rattle.lists.specs.declared.admit.Full.the-variants.{Room, Transactions, Entries}
 use Rattle.lists.specs.declared.entries.EntryRecord.{EntryRecord}
 use Rattle.lists.specs.declared.transactions.TransactionRecord.{TransactionRecord}
-use Rattle.lists.proofs.EntryRecords.{EntryFits, length-entry, entry-back}
+use Rattle.lists.proofs.EntryRecords.{length-entry, entry-back}
 use Rattle.lists.proofs.TransactionRecords.{TransactionFits, length-transaction, transaction-back}
 use Rattle.lists.proofs.Noting.{roomy, full, noteTo, note-dense}
 use Rattle.lists.proofs.Numbers.{note-length, transactions-ascend, transactions-fit}
 
 -- ---- the lists keep their lengths
 
-length-as : (f : Found) (s : List ℕ) (n : ℕ) (e : EntryRecord) → length (noteAs f s n e .transactions) ≡ length s
+length-as : (f : Found) (s : List ℕ) (n : ℕ) (e : EntryRecord) → length (noteBy f s n e .transactions) ≡ length s
 unfolding beginOf
 length-as (At k) s n e = simp length-sets
 length-as (Gap k) s n e = caseB (leb (length s / 24) n) (λ p. rw p) (λ p. rw p (simp length-sets))
@@ -161,7 +160,7 @@ module _ (E T : ℕ) where
   filled-step done e h =
       rw (transactions-snoc done e, length-snoc done e, highest-snoc done e, dense-added entryRecordBytes 32 length-entry E done e (omega arith))
 
-  counting-first : (done : List EntryRecord) (e : EntryRecord) (n : Noted) → length done < E / 32 → n .full ≡ Transactions → Counting (snoc done e) (withEntry (filled E T done) e n)
+  counting-first : (done : List EntryRecord) (e : EntryRecord) (n : Ledger) → length done < E / 32 → n .full ≡ Transactions → Counting (snoc done e) (withEntry (filled E T done) e n)
   unfolding filled
   counting-first done e n h f =
       record { full = f; count = sym (length-snoc done e); room = simp length-sets (filled-room done (omega arith)) }

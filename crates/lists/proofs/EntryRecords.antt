@@ -2,7 +2,7 @@
 -- Assumes nothing.
 use mathlib.Core.Path.{_≡_, _∙_}
 use mathlib.Core.List.{List, _++_, append-assoc}
-use Prim.Native.Nat.{ℕ, _+_, _/_, _^_, _<_, _≤_}
+use Prim.Native.Nat.{ℕ, _+_, _/_, _<_, _≤_}
 use native.Mathlib.Nat.{add-zero}
 use native.Mathlib.Omega.{arith}
 use lib.ListN.{length, drop, replicate, length-append, drop-of-length-le}
@@ -10,15 +10,8 @@ use lib.Seq.{sets, drop-drop}
 use Rattle.fields.specs.Le.{leOf, leBytes, numAt}
 use Rattle.fields.proofs.Numbers.{length-bytes, num-front, num-skip}
 use Rattle.fields.proofs.Stores.{sets-join}
-use Rattle.lists.specs.Entries.{entryRecordAt, entryRecordBytes}
+use Rattle.lists.specs.Entries.{EntryFits, entryRecordAt, entryRecordBytes}
 use Rattle.lists.specs.declared.entries.EntryRecord.{EntryRecord}
-
--- an entry whose numbers have 8 bytes and whose kind has one
-pub record EntryFits (e : EntryRecord) : Type 0 where
-  pub «tx_id» : e .«tx_id» < 2 ^ 64
-  pub place : e .place < 2 ^ 64
-  pub len : e .len < 2 ^ 64
-  pub kind : e .kind < 256
 
 -- a byte and 7 zeros are a number of 8 bytes
 pub byte-and-zeros : (v : ℕ) → v < 256 → leBytes 8 v ≡ leBytes 1 v ++ replicate 7 0

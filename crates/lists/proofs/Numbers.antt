@@ -13,7 +13,7 @@ use lib.Dec.{eqb}
 use lib.ListN.{length}
 use Rattle.fields.proofs.Cases.{caseB}
 use Rattle.records.specs.Sorted.{compareNumbers, put, recordOf, Ascends}
-use Rattle.records.proofs.Dense.{All}
+use Rattle.records.specs.Dense.{All}
 use Rattle.records.proofs.Sorted.{numbers-order, caseO, changedOr, put-length, put-ascends, put-record, put-other}
 use Rattle.lists.specs.Transactions.{noted, begun, txNumber, note, noteAll, transactionsOf, transactionOf}
 use Rattle.lists.specs.Markers.{hasNumber, markerOf, orElse, lastMarker, toCount, countOf, saidOf, isThere}
@@ -21,7 +21,7 @@ use Rattle.lists.specs.declared.entries.EntryRecord.{EntryRecord}
 use Rattle.lists.specs.declared.transactions.RecoveryAction.{RecoveryAction}
 use Rattle.lists.specs.declared.transactions.RecoveryAction.the-variants.{Incomplete, Commit, Rollback}
 use Rattle.lists.specs.declared.transactions.TransactionRecord.{TransactionRecord}
-use Rattle.lists.proofs.EntryRecords.{EntryFits}
+use Rattle.lists.specs.Entries.{EntryFits}
 use Rattle.lists.proofs.TransactionRecords.{TransactionFits}
 
 -- ---- one more entry of a transaction

@@ -2,17 +2,17 @@
 -- Assumes nothing.
 use mathlib.Core.Path.{_≡_, refl}
 use mathlib.Core.List.{List, [], _∷_}
-use Prim.Native.Nat.{ℕ, zero, suc, _+_, _-_, _*_, _<_, _≤_, max}
+use Prim.Native.Nat.{ℕ, suc, _+_, _-_, _*_, _<_, _≤_, max}
 use native.Mathlib.Omega.{arith}
 use lib.ListN.{length, drop}
-use lib.Seq.{drop-drop}
 use Rattle.records.specs.Dense.{recordsOf}
+use Rattle.records.proofs.Dense.{length-read, read-turn}
 use Rattle.lists.specs.Transactions.{transactionAt}
 use Rattle.lists.specs.Markers.{ifCommitted}
 use Rattle.lists.specs.Tally.{tallied, tallyOf, totalOf, highestCommitted}
 use Rattle.lists.specs.declared.transactions.RecoveryAction.{RecoveryAction}
 use Rattle.lists.specs.declared.transactions.RecoveryAction.the-variants.{Incomplete, Commit, Rollback}
-use Rattle.lists.specs.declared.transactions.Tally.{Tally}
+use Rattle.lists.specs.declared.tally.Tally.{Tally}
 use Rattle.lists.specs.declared.transactions.TransactionRecord.{TransactionRecord}
 
 tallied-total : (action : RecoveryAction) (t : Tally) → totalOf (tallied action t) ≡ suc (totalOf t)
@@ -28,31 +28,24 @@ tally-total (t ∷ ts) = omega (arith, tallied-total (t .action) (tallyOf ts), t
 
 -- ---- the loops, from the last record to the first
 
-length-records : (n : ℕ) (s : List ℕ) → length (recordsOf 24 transactionAt n s) ≡ n
-unfolding recordsOf
-length-records zero s = refl
-length-records (suc n) s = omega (arith, length-records n (drop 24 s))
-
 -- the transactions from the k-th to the n-th
 abbrev pub fromTo : (k n : ℕ) → List ℕ → List TransactionRecord
 fromTo k n s = recordsOf 24 transactionAt (n - k) (drop (24 * k) s)
 
 module _ (n k : ℕ) (s : List ℕ) where
-  records-turn : 0 < k → k ≤ n → fromTo (k - 1) n s ≡ transactionAt (drop (24 * (k - 1)) s) ∷ fromTo k n s
-  unfolding recordsOf
-  records-turn h l =
-      let e : n - (k - 1) ≡ suc (n - k) = omega arith in
-      let f : 24 * (k - 1) + 24 ≡ 24 * k = omega arith in
-      rw (e, drop-drop, f)
+  from-turn : 0 < k → k ≤ n → fromTo (k - 1) n s ≡ transactionAt (drop (24 * (k - 1)) s) ∷ fromTo k n s
+  from-turn h l =
+      let e : k - 1 + 1 ≡ k = omega arith in
+      rw e at (read-turn 24 transactionAt n (k - 1) s (omega arith))
 
   pub tally-turn : 0 < k → k ≤ n → tallied (transactionAt (drop (24 * (k - 1)) s) .action) (tallyOf (fromTo k n s)) ≡ tallyOf (fromTo (k - 1) n s)
   unfolding tallyOf
-  tally-turn h l = rw (records-turn h l)
+  tally-turn h l = rw (from-turn h l)
 
   pub highest-turn : 0 < k → k ≤ n → (let t = transactionAt (drop (24 * (k - 1)) s) in max (ifCommitted (t .action) (t .«tx_id») 0) (highestCommitted (fromTo k n s))) ≡ highestCommitted (fromTo (k - 1) n s)
   unfolding highestCommitted
-  highest-turn h l = rw (records-turn h l)
+  highest-turn h l = rw (from-turn h l)
 
   -- fewer are counted than there are
   pub tally-below : 0 < k → k ≤ n → totalOf (tallyOf (fromTo k n s)) < n
-  tally-below h l = omega (arith, tally-total (fromTo k n s), length-records (n - k) (drop (24 * k) s))
+  tally-below h l = omega (arith, tally-total (fromTo k n s), length-read 24 transactionAt (n - k) (drop (24 * k) s))

@@ -20,17 +20,17 @@ use Rattle.lists.specs.declared.entries.EntryRecord.{EntryRecord}
 use Rattle.lists.specs.declared.admit.Full.{Full}
 use Rattle.lists.specs.declared.admit.Full.the-variants.{Room, Transactions, Entries}
 use Rattle.lists.specs.declared.admit.Lists.{Lists}
-use Rattle.lists.specs.declared.admit.Noting.{Noting}
+use Rattle.lists.specs.declared.admit.Extent.{Extent}
 
 -- the transactions, and how far they are filled
-pub record Noted : Type 0 where
+pub record Ledger : Type 0 where
   pub transactions : List ℕ
   pub count : ℕ
   pub full : Full
 
 -- what a call gave back, with the transactions that it left
-abbrev pub noting : List ℕ → Noting → Noted
-noting transactions n = record { transactions = transactions; count = n .count; full = n .full }
+abbrev pub ledger : List ℕ → Extent → Ledger
+ledger transactions e = record { transactions = transactions; count = e .count; full = e .full }
 
 -- how record i stands to a number
 unfoldable pub orderIn : List ℕ → (number : ℕ) → ℕ → Ordering
@@ -46,20 +46,20 @@ begunAt transactions n k e =
     sets (sets transactions (24 * (k + 1)) (take (24 * (n - k)) (drop (24 * k) transactions))) (24 * k) (transactionBytes (begun e))
 
 -- a new number, if there is a record left for it
-unfoldable pub beginOf : List ℕ → (n k : ℕ) → EntryRecord → Noted
+unfoldable pub beginOf : List ℕ → (n k : ℕ) → EntryRecord → Ledger
 beginOf transactions n k e =
     cond (leb (length transactions / 24) n)
     (record { transactions = transactions; count = n; full = Transactions })
     (record { transactions = begunAt transactions n k e; count = n + 1; full = Room })
 
 -- by what was found of the number
-abbrev pub noteAs : Found → List ℕ → (n : ℕ) → EntryRecord → Noted
-noteAs (At k) transactions n e = record { transactions = notedAt transactions k e; count = n; full = Room }
-noteAs (Gap k) transactions n e = beginOf transactions n k e
+abbrev pub noteBy : Found → List ℕ → (n : ℕ) → EntryRecord → Ledger
+noteBy (At k) transactions n e = record { transactions = notedAt transactions k e; count = n; full = Room }
+noteBy (Gap k) transactions n e = beginOf transactions n k e
 
 -- an entry noted among the first n transactions
-unfoldable pub noteOf : List ℕ → (n : ℕ) → EntryRecord → Noted
-noteOf transactions n e = noteAs (foundIn (orderIn transactions (e .«tx_id»)) n) transactions n e
+unfoldable pub noteOf : List ℕ → (n : ℕ) → EntryRecord → Ledger
+noteOf transactions n e = noteBy (foundIn (orderIn transactions (e .«tx_id»)) n) transactions n e
 
 -- both lists, and how far they are filled
 pub record Book : Type 0 where
@@ -72,22 +72,22 @@ abbrev pub book : (entries transactions : List ℕ) → Lists → Book
 book entries transactions lists = record { entries = entries; transactions = transactions; lists = lists }
 
 -- where the transactions are full no more numbers are looked for
-abbrev pub noteIf : Full → List ℕ → (n : ℕ) → EntryRecord → Noted
+abbrev pub noteIf : Full → List ℕ → (n : ℕ) → EntryRecord → Ledger
 noteIf Room transactions n e = noteOf transactions n e
 noteIf Transactions transactions n e = record { transactions = transactions; count = n; full = Transactions }
 noteIf Entries transactions n e = record { transactions = transactions; count = n; full = Entries }
 
 -- the entry is listed, and noted as it was
-abbrev pub withEntry : Book → EntryRecord → Noted → Book
-withEntry b e n =
+abbrev pub withEntry : Book → EntryRecord → Ledger → Book
+withEntry b e l =
     record {
       entries = sets (b .entries) (32 * (b .lists .entries)) (entryRecordBytes e);
-      transactions = n .transactions;
+      transactions = l .transactions;
       lists = record {
         entries = b .lists .entries + 1;
-        transactions = n .count;
+        transactions = l .count;
         highest = max (b .lists .highest) (e .«tx_id»);
-        full = n .full;
+        full = l .full;
       };
     }
 
@@ -116,6 +116,11 @@ admitAll b [] = b
 admitAll b (e ∷ es) = admitAll (admitOf b e) es
 
 -- ---- what the lists come to
+
+-- which list, of so many records, is full for the entries of a log: 6 goes before 7
+unfoldable pub fullOf : (entries transactions : ℕ) → List EntryRecord → Full
+fullOf entries transactions es =
+    cond (leb (length es) entries) (cond (leb (length (transactionsOf es)) transactions) Room Transactions) Entries
 
 -- zero throughout, and nothing filled
 unfoldable pub emptied : (entries transactions : ℕ) → Book

@@ -1,6 +1,6 @@
 -- Document 01: the entry list's record, "32 bytes: tx number, place of payload in area, payload length, kind byte, 7 zeros".
 -- Assumes nothing.
-use Prim.Native.Nat.{ℕ, _+_, max}
+use Prim.Native.Nat.{ℕ, _+_, _^_, _<_, max}
 use mathlib.Core.List.{List, [], _∷_, _++_}
 use lib.ListN.{replicate}
 use Rattle.fields.specs.Le.{leBytes, numAt}
@@ -13,6 +13,13 @@ use Rattle.lists.specs.declared.entries.EntryRecord.{EntryRecord}
 abbrev pub listed : (base : ℕ) → WalEntry → Place → EntryRecord
 listed base entry payload =
     record { «tx_id» = txOf entry; place = base + payload .start; len = payload .len; kind = kindOf entry }
+
+-- an entry whose numbers have 8 bytes and whose kind has one
+pub record EntryFits (e : EntryRecord) : Type 0 where
+  pub «tx_id» : e .«tx_id» < 2 ^ 64
+  pub place : e .place < 2 ^ 64
+  pub len : e .len < 2 ^ 64
+  pub kind : e .kind < 256
 
 unfoldable pub entryRecordBytes : EntryRecord → List ℕ
 entryRecordBytes e = leBytes 8 (e .«tx_id») ++ (leBytes 8 (e .place) ++ (leBytes 8 (e .len) ++ (leBytes 1 (e .kind) ++ replicate 7 0)))

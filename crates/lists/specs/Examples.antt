@@ -11,8 +11,8 @@ use Rattle.records.specs.Halving.{halve, halved, foundIn}
 use Rattle.lists.specs.Entries.{entryRecordBytes, entryRecordAt, highestIn}
 use Rattle.lists.specs.Transactions.{transactionBytes, transactionAt, noted, begun, note, noteAll, transactionsOf}
 use Rattle.lists.specs.Markers.{hasNumber, lastMarker, countOf, saidOf}
-use Rattle.lists.specs.Tally.{tallyOf, highestCommitted, fullOf}
-use Rattle.lists.specs.Admit.{orderIn, beginOf, noteOf, admitOf, admitAll, emptied, filled}
+use Rattle.lists.specs.Tally.{tallyOf, highestCommitted}
+use Rattle.lists.specs.Admit.{orderIn, beginOf, noteOf, admitOf, admitAll, emptied, filled, fullOf}
 use Rattle.lists.specs.declared.admit.Full.the-variants.{Transactions, Entries}
 use Rattle.lists.specs.declared.entries.EntryRecord.{EntryRecord}
 use Rattle.lists.specs.declared.transactions.RecoveryAction.{RecoveryAction}

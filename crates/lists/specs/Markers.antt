@@ -5,6 +5,7 @@ use mathlib.Core.Bool.{Bool, true, false, cond, _||_}
 use mathlib.Core.List.{List, [], _∷_}
 use mathlib.Core.Option.{Option, none, some}
 use lib.Dec.{eqb}
+use Rattle.payload.specs.Kind.{commitKind, abortKind}
 use Rattle.lists.specs.declared.entries.EntryRecord.{EntryRecord}
 use Rattle.lists.specs.declared.transactions.RecoveryAction.{RecoveryAction}
 use Rattle.lists.specs.declared.transactions.RecoveryAction.the-variants.{Incomplete, Commit, Rollback}
@@ -15,9 +16,8 @@ unfoldable pub hasNumber : ℕ → List EntryRecord → Bool
 hasNumber number [] = false
 hasNumber number (e ∷ es) = eqb (e .«tx_id») number || hasNumber number es
 
--- 3 is a commit marker, 4 an abort marker
 abbrev pub markerOf : (kind : ℕ) → RecoveryAction
-markerOf kind = cond (eqb kind 3) Commit (cond (eqb kind 4) Rollback Incomplete)
+markerOf kind = cond (eqb kind commitKind) Commit (cond (eqb kind abortKind) Rollback Incomplete)
 
 abbrev pub orElse : RecoveryAction → RecoveryAction → RecoveryAction
 orElse Incomplete action = action

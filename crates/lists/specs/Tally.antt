@@ -1,19 +1,12 @@
 -- What recovery counts of the transactions, and what checkpoint asks of them.
 -- Assumes nothing.
 use Prim.Native.Nat.{ℕ, _+_, max}
-use mathlib.Core.Bool.{cond}
 use mathlib.Core.List.{List, [], _∷_}
-use lib.Dec.{leb}
-use lib.ListN.{length}
 use Rattle.lists.specs.Markers.{ifCommitted}
-use Rattle.lists.specs.Transactions.{transactionsOf}
-use Rattle.lists.specs.declared.admit.Full.{Full}
-use Rattle.lists.specs.declared.admit.Full.the-variants.{Room, Transactions, Entries}
-use Rattle.lists.specs.declared.entries.EntryRecord.{EntryRecord}
 use Rattle.lists.specs.declared.transactions.RecoveryAction.{RecoveryAction}
 use Rattle.lists.specs.declared.transactions.RecoveryAction.the-variants.{Incomplete, Commit, Rollback}
 use Rattle.lists.specs.declared.transactions.TransactionRecord.{TransactionRecord}
-use Rattle.lists.specs.declared.transactions.Tally.{Tally}
+use Rattle.lists.specs.declared.tally.Tally.{Tally}
 
 -- one more transaction of an action
 abbrev pub tallied : RecoveryAction → Tally → Tally
@@ -34,9 +27,3 @@ totalOf t = t .committed + t .aborted + t .incomplete
 unfoldable pub highestCommitted : List TransactionRecord → ℕ
 highestCommitted [] = 0
 highestCommitted (t ∷ ts) = max (ifCommitted (t .action) (t .«tx_id») 0) (highestCommitted ts)
-
--- which list, of so many records, is full for the entries of a log: "more accepted entries than entry records", before
--- "more distinct numbers than transaction records"
-unfoldable pub fullOf : (entries transactions : ℕ) → List EntryRecord → Full
-fullOf entries transactions es =
-    cond (leb (length es) entries) (cond (leb (length (transactionsOf es)) transactions) Room Transactions) Entries

@@ -2,12 +2,14 @@
 use crate::entries::EntryRecord;
 use crate::transactions::RecoveryAction;
 use crate::transactions::TransactionRecord;
+use payload::kind::ABORT;
+use payload::kind::COMMIT;
 use records::Found;
 ghost use mathlib.Core.Path.{_≡_};
 ghost use Prim.Native.Nat.{_≤_};
 ghost use Rattle.lists.specs.Markers.{markerOf, orElse, unmarked};
 ghost use Rattle.lists.specs.Transactions.{transactionBytes, noted, begun};
-ghost use Rattle.lists.specs.Admit.{noting, notedAt, beginOf, noteOf, noteIf, book, admitOf};
+ghost use Rattle.lists.specs.Admit.{ledger, notedAt, beginOf, noteOf, noteIf, book, admitOf};
 
 pub enum Full {
     Room,
@@ -26,18 +28,18 @@ pub struct Lists {
 }
 
 // How far the transactions are filled.
-struct Noting {
+struct Extent {
     count: usize,
     full: Full,
 }
 
-// The action that a kind marks: 3 is a commit marker, 4 an abort marker.
+// The action that a kind marks.
 fn marker(kind: u8) -> RecoveryAction
     ensures { λ r. ⌜ r ≡ markerOf kind ⌝ }
 {
-    match kind {
-        3 => RecoveryAction::Commit,
-        4 => RecoveryAction::Rollback,
+    match kind as u64 {
+        COMMIT => RecoveryAction::Commit,
+        ABORT => RecoveryAction::Rollback,
         _ => RecoveryAction::Incomplete,
     }
 }
@@ -100,38 +102,38 @@ fn note_at(transactions: &mut [u8], k: usize, entry: EntryRecord)
 }
 
 // A new number, if there is a record left for it: the records from k on, up to the n-th, make room.
-fn begin_at(transactions: &mut [u8], n: usize, k: usize, entry: EntryRecord) -> Noting
+fn begin_at(transactions: &mut [u8], n: usize, k: usize, entry: EntryRecord) -> Extent
     requires { ⌜ k ≤ n ⌝ }
-    ensures { λ r. ⌜ noting (now (transactions .exit)) r ≡ beginOf (now (transactions .entry)) n k entry ⌝ }
+    ensures { λ r. ⌜ ledger (now (transactions .exit)) r ≡ beginOf (now (transactions .entry)) n k entry ⌝ }
 {
     if transactions.len() / TransactionRecord::SIZE <= n {
-        return Noting {
+        return Extent {
             count: n,
             full: Full::Transactions,
         };
     }
-    // 3 words a record. A new highest number moves none.
+    // A new highest number moves none.
     records::moves::move_up(
         transactions,
         TransactionRecord::SIZE * k,
-        3 * (n - k),
+        TransactionRecord::SIZE * (n - k),
         TransactionRecord::SIZE,
     );
     crate::transactions::put_transaction(transactions, k, begun(entry));
-    Noting {
+    Extent {
         count: n + 1,
         full: Full::Room,
     }
 }
 
 // An entry noted among the first n transactions.
-fn note(transactions: &mut [u8], n: usize, entry: EntryRecord) -> Noting
-    ensures { λ r. ⌜ noting (now (transactions .exit)) r ≡ noteOf (now (transactions .entry)) n entry ⌝ }
+fn note(transactions: &mut [u8], n: usize, entry: EntryRecord) -> Extent
+    ensures { λ r. ⌜ ledger (now (transactions .exit)) r ≡ noteOf (now (transactions .entry)) n entry ⌝ }
 {
     match crate::transactions::find(transactions, n, entry.tx_id) {
         Found::At(k) => {
             note_at(transactions, k, entry);
-            Noting {
+            Extent {
                 count: n,
                 full: Full::Room,
             }
@@ -141,13 +143,13 @@ fn note(transactions: &mut [u8], n: usize, entry: EntryRecord) -> Noting
 }
 
 // Where a list is full no more numbers are looked for.
-fn note_if(full: Full, transactions: &mut [u8], n: usize, entry: EntryRecord) -> Noting
-    ensures { λ r. ⌜ noting (now (transactions .exit)) r ≡ noteIf full (now (transactions .entry)) n entry ⌝ }
+fn note_if(full: Full, transactions: &mut [u8], n: usize, entry: EntryRecord) -> Extent
+    ensures { λ r. ⌜ ledger (now (transactions .exit)) r ≡ noteIf full (now (transactions .entry)) n entry ⌝ }
 {
     match full {
         Full::Room => note(transactions, n, entry),
-        Full::Transactions => Noting { count: n, full },
-        Full::Entries => Noting { count: n, full },
+        Full::Transactions => Extent { count: n, full },
+        Full::Entries => Extent { count: n, full },
     }
 }
 
@@ -155,7 +157,6 @@ fn note_if(full: Full, transactions: &mut [u8], n: usize, entry: EntryRecord) ->
 pub fn admit(entries: &mut [u8], transactions: &mut [u8], lists: Lists, entry: EntryRecord) -> Lists
     ensures { λ r. ⌜ book (now (entries .exit)) (now (transactions .exit)) r ≡ admitOf (book (now (entries .entry)) (now (transactions .entry)) lists) entry ⌝ }
 {
-    let full = lists.full;
     if entries.len() / EntryRecord::SIZE <= lists.entries {
         return Lists {
             entries: lists.entries,
@@ -165,12 +166,13 @@ pub fn admit(entries: &mut [u8], transactions: &mut [u8], lists: Lists, entry: E
         };
     }
     crate::entries::put_entry(entries, lists.entries, entry);
-    let noting = note_if(full, transactions, lists.transactions, entry);
-    let full = noting.full;
+    let full = lists.full;
+    let extent = note_if(full, transactions, lists.transactions, entry);
+    let full = extent.full;
     Lists {
         entries: lists.entries + 1,
-        transactions: noting.count,
-        highest: crate::tally::higher(lists.highest, entry.tx_id),
+        transactions: extent.count,
+        highest: fields::higher(lists.highest, entry.tx_id),
         full,
     }
 }

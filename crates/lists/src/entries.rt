@@ -15,6 +15,8 @@ pub struct EntryRecord {
 
 impl EntryRecord {
     pub const SIZE: usize = 32;
+    // Where the 7 zeros stand.
+    pub const SPARE: usize = 25;
 }
 
 // Record k. What lies past the list's end reads as 0.

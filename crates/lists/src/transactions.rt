@@ -1,12 +1,11 @@
 // The transactions' record, and the place of a number among the transactions.
 use records::Found;
 ghost use mathlib.Core.Path.{_≡_};
-ghost use Prim.Native.Nat.{_*_, _+_, _^_, _<_};
+ghost use Prim.Native.Nat.{_*_};
 ghost use lib.ListN.{drop};
 ghost use lib.Seq.{sets};
 ghost use Rattle.records.specs.Halving.{foundIn};
 ghost use Rattle.lists.specs.Transactions.{actionNumber, actionOf, transactionAt, transactionBytes};
-ghost use Rattle.lists.specs.Tally.{tallied, totalOf};
 ghost use Rattle.lists.specs.Admit.{orderIn};
 
 pub enum RecoveryAction {
@@ -47,6 +46,8 @@ pub struct TransactionRecord {
 
 impl TransactionRecord {
     pub const SIZE: usize = 24;
+    // Where the 7 zeros stand.
+    pub const SPARE: usize = 9;
 }
 
 // Record k. What lies past the transactions' end reads as 0.
@@ -105,27 +106,4 @@ pub fn find(transactions: &[u8], n: usize, tx_id: u64) -> Found
         }
     }
     Found::Gap(from)
-}
-
-// How many transactions are committed, aborted and incomplete.
-pub struct Tally {
-    pub committed: usize,
-    pub aborted: usize,
-    pub incomplete: usize,
-}
-
-impl Tally {
-    // One more transaction of an action.
-    pub(crate) fn with(self, action: RecoveryAction) -> Self
-        requires { ⌜ totalOf self + 1 < 2 ^ 64 ⌝ }
-        ensures { λ r. ⌜ r ≡ tallied action self ⌝ }
-    {
-        let mut tally = self;
-        match action {
-            RecoveryAction::Commit => tally.committed += 1,
-            RecoveryAction::Rollback => tally.aborted += 1,
-            RecoveryAction::Incomplete => tally.incomplete += 1,
-        }
-        tally
-    }
 }

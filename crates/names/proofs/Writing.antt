@@ -9,12 +9,13 @@ use lib.ListN.{length, take, drop, length-append}
 use lib.Seq.{sets, length-sets, sets-eq, take-at}
 use Rattle.fields.proofs.Stores.{sets-join}
 use Rattle.refusal.specs.Number.{numberOf}
+use Rattle.refusal.specs.Answer.{refused, accepted}
 use Rattle.refusal.specs.declared.Refusal.{Refusal}
 use Rattle.refusal.specs.declared.Refusal.the-variants.{InvalidBuffer}
 use Rattle.names.specs.declared.Named.{Named}
 use Rattle.names.specs.declared.Named.the-variants.{Refused, Written}
 use Rattle.names.specs.Decimal.{digitsOf, padded, lowDigits}
-use Rattle.names.specs.Name.{prefix, suffix, nameOf, namedOf, targetOf, Writes, refused, written, answerOf}
+use Rattle.names.specs.Name.{Naming, prefix, suffix, nameOf, naming, nameInto, namedAs}
 use Rattle.names.proofs.Digits.{length-padded, digits-most, padded-width}
 
 pub length-parts : (id : ℕ) → length (nameOf id) ≡ 4 + length (padded 8 (digitsOf id)) + 4
@@ -41,32 +42,34 @@ name-stored l id n e =
     let b : 4 + length ds ≡ 0 + length (prefix ++ ds) = omega (arith, length-prefix, length-append prefix ds) in
     rw (e, ← padded-width 8 id, ← sets-join l (prefix ++ ds) suffix 0 (4 + length ds) b, ← sets-join l prefix ds 0 4 a)
 
-pub refuses : (id : ℕ) (l : List ℕ) → length l < length (nameOf id) → Writes id l (Refused InvalidBuffer) l
-unfolding namedOf targetOf
-refuses id l h = record { answer = rw (lt-leb _ _ h); target = rw (lt-leb _ _ h) }
+pub refuses : (id : ℕ) (l : List ℕ) → length l < length (nameOf id) → naming (Refused InvalidBuffer) l ≡ nameInto id l
+unfolding nameInto
+refuses id l h = rw (lt-leb _ _ h)
 
-pub accepts : (id : ℕ) (l : List ℕ) (n : ℕ) (k : List ℕ) → length (nameOf id) ≤ length l → n ≡ length (nameOf id) → k ≡ sets l 0 (nameOf id) → Writes id l (Written n) k
-unfolding namedOf targetOf
-accepts id l n k h e f = record { answer = ap written e ∙ rw (le-leb _ _ h); target = f ∙ rw (le-leb _ _ h) }
+pub accepts : (id : ℕ) (l : List ℕ) (n : ℕ) (k : List ℕ) → length (nameOf id) ≤ length l → n ≡ length (nameOf id) → k ≡ sets l 0 (nameOf id) → naming (Written n) k ≡ nameInto id l
+unfolding nameInto
+accepts id l n k h e f = rw (le-leb _ _ h, e, f)
 
 -- a target that is long enough: the answer, and the bytes that were written
-module _ (id : ℕ) (l : List ℕ) (r : Named) (k : List ℕ) (w : Writes id l r k) (h : length (nameOf id) ≤ length l) where
-  written-answer : answerOf r ≡ written (length (nameOf id))
-  unfolding namedOf
-  written-answer = w .answer ∙ rw (le-leb _ _ h)
+module _ (id : ℕ) (l : List ℕ) (r : Named) (k : List ℕ) (w : naming r k ≡ nameInto id l) (h : length (nameOf id) ≤ length l) where
+  whole : naming r k ≡ record { answer = accepted (length (nameOf id)); target = sets l 0 (nameOf id) }
+  unfolding nameInto
+  whole = w ∙ rw (le-leb _ _ h)
+
+  answered : namedAs r ≡ accepted (length (nameOf id))
+  answered = ap (λ (x : Naming). x .answer) whole
 
   pub not-refused : (e : Refusal) → r ≡ Refused e → ⊥
   not-refused e f =
-      let g : refused (numberOf e) ≡ written (length (nameOf id)) = sym (ap answerOf f) ∙ written-answer in
+      let g : refused (numberOf e) ≡ accepted (length (nameOf id)) = sym (ap namedAs f) ∙ answered in
       let z : _≡_ {A = ℕ} 0 1 = cc in omega arith
 
   pub written-count : (n : ℕ) → r ≡ Written n → n ≡ length (nameOf id)
   written-count n e =
-      let f : written n ≡ written (length (nameOf id)) = sym (ap answerOf e) ∙ written-answer in cc
+      let f : accepted n ≡ accepted (length (nameOf id)) = sym (ap namedAs e) ∙ answered in cc
 
   stored : k ≡ sets l 0 (nameOf id)
-  unfolding targetOf
-  stored = w .target ∙ rw (le-leb _ _ h)
+  stored = ap (λ (x : Naming). x .target) whole
 
   pub written-length : length k ≡ length l
   written-length = rw (stored, length-sets)

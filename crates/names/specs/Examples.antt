@@ -4,11 +4,12 @@ use mathlib.Core.Path.{_≡_, refl}
 use mathlib.Core.Bool.{true, false}
 use mathlib.Core.List.{List, [], _∷_, _++_}
 use Prim.Native.Nat.{ℕ, _-_, _^_}
-use lib.ListN.{length}
+use lib.ListN.{length, replicate}
 use Rattle.fields.specs.Order.{compareBytes, sameBytes}
+use Rattle.refusal.specs.Answer.{refused, accepted}
 use Rattle.names.specs.declared.Parsed.the-variants.{NoName, Id}
 use Rattle.names.specs.Decimal.{digitsBy, digitsOf, padded, allDigits, valueAfter, numberAfter, numberIn}
-use Rattle.names.specs.Name.{prefix, suffix, nameOf, isFramed, between, withoutPlus, parsedAs, readOf}
+use Rattle.names.specs.Name.{prefix, suffix, nameOf, nameInto, isFramed, between, withoutPlus, parsedAs, readOf}
 
 -- `wal-00000001.log`
 first : nameOf 1 ≡ 119 ∷ 97 ∷ 108 ∷ 45 ∷ 48 ∷ 48 ∷ 48 ∷ 48 ∷ 48 ∷ 48 ∷ 48 ∷ 49 ∷ 46 ∷ 108 ∷ 111 ∷ 103 ∷ []
@@ -22,6 +23,13 @@ zero-digit = refl
 longest : length (nameOf (2 ^ 64 - 1)) ≡ 28
 unfolding prefix suffix digitsBy digitsOf padded nameOf
 longest = refl
+
+-- a target of 17 bytes, and one that is too short by one
+named :
+    (nameInto 1 (replicate 17 7) ≡ record { answer = accepted 16; target = nameOf 1 ++ 7 ∷ [] })
+    × (nameInto 1 (replicate 15 7) ≡ record { answer = refused 1; target = replicate 15 7 })
+unfolding prefix suffix digitsBy digitsOf padded nameOf nameInto
+named = (refl, refl)
 
 -- a name with this text between prefix and suffix
 abbrev around : List ℕ → List ℕ

@@ -1,6 +1,5 @@
 -- Document 01, "Names": writing and reading the name of a segment's file.
 -- Assumes nothing.
-use mathlib.Core.Path.{_≡_}
 use mathlib.Core.Bool.{Bool, cond, _&&_}
 use mathlib.Core.List.{List, [], _∷_, _++_}
 use Prim.Native.Nat.{ℕ, _+_, _-_}
@@ -9,6 +8,7 @@ use lib.ListN.{length, take, drop}
 use lib.Seq.{sets}
 use Rattle.fields.specs.Order.{sameBytes}
 use Rattle.refusal.specs.Number.{numberOf}
+use Rattle.refusal.specs.Answer.{Answer, refused, accepted}
 use Rattle.names.specs.declared.decimal.Number.{Number}
 use Rattle.names.specs.declared.decimal.Number.the-variants.{NoNumber, Value}
 use Rattle.names.specs.declared.Named.{Named}
@@ -29,27 +29,25 @@ suffix = 46 ∷ 108 ∷ 111 ∷ 103 ∷ []
 unfoldable pub nameOf : ℕ → List ℕ
 nameOf id = prefix ++ padded 8 (digitsOf id) ++ suffix
 
--- the answer in document 01's numbers: a refusal by its number, or the name's length
-pub data Answer : Type 0 where
-  refused : (number : ℕ) → Answer
-  written : (len : ℕ) → Answer
+-- the name's length, or the refusal
+abbrev pub namedAs : Named → Answer ℕ
+namedAs (Refused refusal) = refused (numberOf refusal)
+namedAs (Written len) = accepted len
 
-abbrev pub answerOf : Named → Answer
-answerOf (Refused refusal) = refused (numberOf refusal)
-answerOf (Written len) = written len
+pub record Naming : Type 0 where
+  pub answer : Answer ℕ
+  pub target : List ℕ
 
--- refusal 1: "a target for a name .. is too short for it"
-unfoldable pub namedOf : ℕ → List ℕ → Answer
-namedOf id target = cond (leb (length (nameOf id)) (length target)) (written (length (nameOf id))) (refused 1)
+-- what a call gave back, with the target that it left
+abbrev pub naming : Named → (target : List ℕ) → Naming
+naming r target = record { answer = namedAs r; target = target }
 
--- "Writing leaves the bytes after the name unchanged."; a refusal leaves them all
-unfoldable pub targetOf : ℕ → List ℕ → List ℕ
-targetOf id target = cond (leb (length (nameOf id)) (length target)) (sets target 0 (nameOf id)) target
-
--- what `segment_name` promises: its answer, and the target at exit
-pub record Writes (id : ℕ) (before : List ℕ) (r : Named) (after : List ℕ) : Type 0 where
-  pub answer : answerOf r ≡ namedOf id before
-  pub target : after ≡ targetOf id before
+-- "Writing leaves the bytes after the name unchanged."; refusal 1: "a target for a name .. is too short for it"
+unfoldable pub nameInto : (id : ℕ) → (target : List ℕ) → Naming
+nameInto id target =
+    cond (leb (length (nameOf id)) (length target))
+    (record { answer = accepted (length (nameOf id)); target = sets target 0 (nameOf id) })
+    (record { answer = refused 1; target = target })
 
 -- the prefix is there, and the suffix after it
 unfoldable pub isFramed : List ℕ → Bool

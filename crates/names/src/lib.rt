@@ -1,7 +1,7 @@
 // The names of segment files, written and read.
 ghost use mathlib.Core.Path.{_≡_};
 ghost use Rattle.fields.specs.Order.{sameBytes};
-ghost use Rattle.names.specs.Name.{nameOf, Writes, isFramed, withoutPlus, readOf};
+ghost use Rattle.names.specs.Name.{nameOf, naming, nameInto, isFramed, withoutPlus, readOf};
 use decimal::Number;
 use refusal::Refusal;
 
@@ -10,6 +10,9 @@ mod decimal;
 const PREFIX: [u8; 4] = *b"wal-";
 
 const SUFFIX: [u8; 4] = *b".log";
+
+// The longest name: its id has 20 digits.
+const NAME_MOST: usize = PREFIX.len() + 20 + SUFFIX.len();
 
 pub enum Named {
     Refused(Refusal),
@@ -25,7 +28,7 @@ pub enum Parsed {
 
 // Writes the name of the segment's file to the target's first bytes.
 pub fn segment_name(id: u64, target: &mut [u8]) -> Named
-    ensures { λ r. ⌜ Writes id (now (target .entry)) r (now (target .exit)) ⌝ }
+    ensures { λ r. ⌜ naming r (now (target .exit)) ≡ nameInto id (now (target .entry)) ⌝ }
 {
     let digits = decimal::width(id);
     let end = PREFIX.len() + digits;
@@ -64,11 +67,11 @@ fn unsigned(text: &[u8]) -> &[u8]
     text
 }
 
-// The longest name has 20 digits, so the answer `Refused` never comes.
+// The target is long enough, so the answer `Refused` never comes.
 fn is_kept(name: &[u8], id: u64) -> bool
     ensures { λ r. ⌜ r ≡ sameBytes (now (name .entry)) (nameOf id) ⌝ }
 {
-    let mut written = [0u8; 28];
+    let mut written = [0u8; NAME_MOST];
     let Named::Written(n) = segment_name(id, &mut written) else {
         return false;
     };

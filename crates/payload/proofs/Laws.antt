@@ -1,12 +1,12 @@
 -- Laws of the payload: how long it is, how long a well-formed one can be, and what is stored of it.
 -- Assumes nothing.
-use mathlib.Core.Path.{_≡_, refl, sym, ap}
+use mathlib.Core.Path.{_≡_, refl, sym}
 use mathlib.Core.Bool.{true, false, _&&_, and-eq-true-iff, false≢true}
 use mathlib.Core.List.{List, _++_, append-nil, append-assoc}
 use mathlib.Core.Option.{Option, none, some}
 use Prim.Native.Nat.{ℕ, zero, suc, _+_, _<_, _≤_}
 use native.Mathlib.Omega.{arith}
-use borrow.Author.Tests.{leb-true, le-leb, lt-leb}
+use borrow.Author.Tests.{leb-true, le-leb, lt-leb, ne-eqb}
 use lib.Dec.{leb}
 use lib.ListN.{length, length-append}
 use lib.Seq.{sets}
@@ -16,19 +16,15 @@ use Rattle.fields.proofs.Stores.{sets-join}
 use Rattle.utf8.specs.Grammar.{isUtf8}
 use Rattle.payload.specs.Kind.{byKind}
 use Rattle.payload.specs.Content.{Content, insert, update, delete, commit, abort, fixedBytes, partBytes, payloadOf, keyFits, valueFits, wellFormed}
-use Rattle.payload.specs.Encode.{asked, isWellFormed, putAnswer, putTarget, EncodeIs, PayloadPut, PartPut}
+use Rattle.payload.specs.Encode.{asked, isWellFormed, encoding, putOf, encodeOf, PartPut}
 use Rattle.payload.specs.declared.Encoded.{Encoded}
 use Rattle.payload.specs.declared.Encoded.the-variants.{Written, NotWellFormed, NoRoom}
 
 -- a number over 4 is no kind
 pub by-other : {A : Type 0} (k : ℕ) (i u d c a o : A) → 4 < k → byKind k i u d c a o ≡ o
 unfolding byKind
-by-other zero i u d c a o h = absurd (omega arith)
-by-other (suc zero) i u d c a o h = absurd (omega arith)
-by-other (suc (suc zero)) i u d c a o h = absurd (omega arith)
-by-other (suc (suc (suc zero))) i u d c a o h = absurd (omega arith)
-by-other (suc (suc (suc (suc zero)))) i u d c a o h = absurd (omega arith)
-by-other (suc (suc (suc (suc (suc k))))) i u d c a o h = refl
+by-other k i u d c a o h =
+    rw (ne-eqb k 0 (omega arith), ne-eqb k 1 (omega arith), ne-eqb k 2 (omega arith), ne-eqb k 3 (omega arith), ne-eqb k 4 (omega arith))
 
 pub length-fixed : (kind tx time : ℕ) → length (fixedBytes kind tx time) ≡ 20
 unfolding fixedBytes
@@ -114,28 +110,25 @@ stored-part {before} {bytes} {mid} {part} {after} {at} s p =
     }
 
 -- a payload that has room, and one that has none
-pub put-all : (payload before after : List ℕ) (n : ℕ) → Stored before payload after n → length payload ≤ length before → PayloadPut payload before after (Written n)
-unfolding putAnswer putTarget
+pub put-all : (payload before after : List ℕ) (n : ℕ) → Stored before payload after n → length payload ≤ length before → encoding (Written n) after ≡ putOf payload before
+unfolding putOf
 put-all payload before after n s h =
-    let e : leb (length payload) (length before) ≡ true = le-leb (length payload) (length before) h in
-    record { answer = rw e (ap Written (s .next)); target = rw e (s .target) }
+    rw (le-leb (length payload) (length before) h, ← s .next, ← s .target)
 
-pub put-nothing : (payload before : List ℕ) → length before < length payload → PayloadPut payload before before NoRoom
-unfolding putAnswer putTarget
-put-nothing payload before h =
-    let e : leb (length payload) (length before) ≡ false = lt-leb (length payload) (length before) h in
-    record { answer = rw e; target = rw e }
+pub put-nothing : (payload before : List ℕ) → length before < length payload → encoding NoRoom before ≡ putOf payload before
+unfolding putOf
+put-nothing payload before h = rw (lt-leb (length payload) (length before) h)
 
 -- what `encode` answers: of what is not well-formed, of what is, and of a marker
-pub refused : (content : Option Content) (tx time : ℕ) (before : List ℕ) → isWellFormed content ≡ false → EncodeIs content tx time before before NotWellFormed
-refused none tx time before e = record { answer = refl; target = refl }
-refused (some content) tx time before e = record { answer = rw e; target = rw e }
+pub refused : (content : Option Content) (tx time : ℕ) (before : List ℕ) → isWellFormed content ≡ false → encoding NotWellFormed before ≡ encodeOf content tx time before
+unfolding encodeOf
+refused content tx time before e = rw e
 
-pub accepted : (content : Content) (tx time : ℕ) (before after : List ℕ) (r : Encoded) → wellFormed content ≡ true → PayloadPut (payloadOf tx time content) before after r → EncodeIs (some content) tx time before after r
-accepted content tx time before after r e p =
-    record { answer = rw e (p .answer); target = rw e (p .target) }
+pub accepted : (content : Content) (tx time : ℕ) (before after : List ℕ) (r : Encoded) → wellFormed content ≡ true → encoding r after ≡ putOf (payloadOf tx time content) before → encoding r after ≡ encodeOf (some content) tx time before
+unfolding encodeOf
+accepted content tx time before after r e p = rw e p
 
-pub marked : (kind tx time : ℕ) (key old new before after : List ℕ) (r : Encoded) → 2 < kind → isWellFormed (asked kind key old new) ≡ true → PayloadPut (fixedBytes kind tx time) before after r → EncodeIs (asked kind key old new) tx time before after r
+pub marked : (kind tx time : ℕ) (key old new before after : List ℕ) (r : Encoded) → 2 < kind → isWellFormed (asked kind key old new) ≡ true → encoding r after ≡ putOf (fixedBytes kind tx time) before → encoding r after ≡ encodeOf (asked kind key old new) tx time before
 unfolding asked byKind payloadOf
 marked zero tx time key old new before after r h e p = absurd (omega arith)
 marked (suc zero) tx time key old new before after r h e p = absurd (omega arith)
@@ -145,4 +138,4 @@ marked (suc (suc (suc zero))) tx time key old new before after r h e p =
 marked (suc (suc (suc (suc zero)))) tx time key old new before after r h e p =
     accepted abort tx time before after r e (rw append-nil p)
 marked (suc (suc (suc (suc (suc k))))) tx time key old new before after r h e p =
-    absurd (false≢true e)
+    absurd (false≢true (rw (by-other (suc (suc (suc (suc (suc k))))) _ _ _ _ _ _ (omega arith)) at e))

@@ -7,6 +7,7 @@ use lib.Dec.{leb}
 use lib.ListN.{length}
 use Rattle.fields.specs.Le.{leBytes}
 use Rattle.utf8.specs.Grammar.{isUtf8}
+use Rattle.payload.specs.Kind.{insertKind, updateKind, deleteKind, commitKind, abortKind}
 
 pub data Content : Type 0 where
   insert : (key value : List ℕ) → Content
@@ -15,17 +16,20 @@ pub data Content : Type 0 where
   commit : Content
   abort : Content
 
--- "a 4-byte kind (0 Insert, 1 Update, 2 Delete, 3 Commit, 4 Abort)"
 abbrev pub kindNumber : Content → ℕ
-kindNumber (insert key value) = 0
-kindNumber (update key old new) = 1
-kindNumber (delete key old) = 2
-kindNumber commit = 3
-kindNumber abort = 4
+kindNumber (insert key value) = insertKind
+kindNumber (update key old new) = updateKind
+kindNumber (delete key old) = deleteKind
+kindNumber commit = commitKind
+kindNumber abort = abortKind
 
 -- "a 4-byte kind .., tx number, timestamp"
 unfoldable pub fixedBytes : ℕ → ℕ → ℕ → List ℕ
 fixedBytes kind tx time = leBytes 4 kind ++ (leBytes 8 tx ++ leBytes 8 time)
+
+-- their length: 4, 8 and 8
+abbrev pub fixedLength : ℕ
+fixedLength = 20
 
 -- "A key or value is an 8-byte length and its bytes."
 unfoldable pub partBytes : List ℕ → List ℕ
@@ -41,6 +45,14 @@ partsBytes abort = []
 
 unfoldable pub payloadOf : ℕ → ℕ → Content → List ℕ
 payloadOf tx time content = fixedBytes (kindNumber content) tx time ++ partsBytes content
+
+-- what can be decoded: "Decoding fails .. on a key that isn't UTF-8."
+unfoldable pub readable : Content → Bool
+readable (insert key value) = isUtf8 key
+readable (update key old new) = isUtf8 key
+readable (delete key old) = isUtf8 key
+readable commit = true
+readable abort = true
 
 -- refused with 3: "key not UTF-8 or over 64 bytes, or a value over 252"
 unfoldable pub keyFits : List ℕ → Bool

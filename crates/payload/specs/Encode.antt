@@ -3,7 +3,7 @@
 use Prim.Native.Nat.{ℕ, _+_}
 use mathlib.Core.Path.{_≡_}
 use mathlib.Core.Bool.{Bool, false, cond}
-use mathlib.Core.List.{List}
+use mathlib.Core.List.{List, []}
 use mathlib.Core.Option.{Option, none, some}
 use lib.Dec.{leb}
 use lib.ListN.{length}
@@ -22,30 +22,32 @@ abbrev pub isWellFormed : Option Content → Bool
 isWellFormed none = false
 isWellFormed (some content) = wellFormed content
 
+-- its payload; what no kind asks for has none
+abbrev pub payloadFor : (tx time : ℕ) → Option Content → List ℕ
+payloadFor tx time none = []
+payloadFor tx time (some content) = payloadOf tx time content
+
+-- what a call that writes a payload gives back
+pub record Encoding : Type 0 where
+  pub answer : Encoded
+  pub target : List ℕ
+
+abbrev pub encoding : Encoded → (target : List ℕ) → Encoding
+encoding answer target = record { answer = answer; target = target }
+
 -- a payload at the front of a target: all of it, or nothing where it does not fit
-unfoldable pub putAnswer : List ℕ → ℕ → Encoded
-putAnswer payload room = cond (leb (length payload) room) (Written (length payload)) NoRoom
+unfoldable pub putOf : (payload target : List ℕ) → Encoding
+putOf payload target =
+    cond (leb (length payload) (length target))
+    (encoding (Written (length payload)) (sets target 0 payload))
+    (encoding NoRoom target)
 
-unfoldable pub putTarget : List ℕ → List ℕ → List ℕ
-putTarget payload target = cond (leb (length payload) (length target)) (sets target 0 payload) target
+-- the payload of what is asked for, if that is well-formed
+unfoldable pub encodeOf : Option Content → (tx time : ℕ) → (target : List ℕ) → Encoding
+encodeOf content tx time target =
+    cond (isWellFormed content) (putOf (payloadFor tx time content) target) (encoding NotWellFormed target)
 
-abbrev pub encodeAnswer : Option Content → ℕ → ℕ → ℕ → Encoded
-encodeAnswer none tx time room = NotWellFormed
-encodeAnswer (some content) tx time room = cond (wellFormed content) (putAnswer (payloadOf tx time content) room) NotWellFormed
-
-abbrev pub encodeTarget : Option Content → ℕ → ℕ → List ℕ → List ℕ
-encodeTarget none tx time target = target
-encodeTarget (some content) tx time target = cond (wellFormed content) (putTarget (payloadOf tx time content) target) target
-
-pub record EncodeIs (content : Option Content) (tx time : ℕ) (before after : List ℕ) (r : Encoded) : Type 0 where
-  pub answer : r ≡ encodeAnswer content tx time (length before)
-  pub target : after ≡ encodeTarget content tx time before
-
--- of the functions inside: one payload, and one part of it
-pub record PayloadPut (payload before after : List ℕ) (r : Encoded) : Type 0 where
-  pub answer : r ≡ putAnswer payload (length before)
-  pub target : after ≡ putTarget payload before
-
+-- one part of a payload: the place behind it, and the target
 pub record PartPut (before : List ℕ) (at : ℕ) (part after : List ℕ) (r : ℕ) : Type 0 where
   pub next : r ≡ at + length (partBytes part)
   pub target : after ≡ sets before at (partBytes part)

@@ -1,11 +1,18 @@
 // A payload is written as bincode 1.x writes `ByteWalEntry`.
+use kind::ABORT;
+use kind::COMMIT;
+use kind::DELETE;
+use kind::INSERT;
+use kind::UPDATE;
 ghost use mathlib.Core.Path.{_≡_};
 ghost use Prim.Native.Nat.{_+_, _≤_};
 ghost use mathlib.Core.List.{_++_};
 ghost use lib.ListN.{length};
 ghost use lib.Seq.{sets};
 ghost use Rattle.payload.specs.Content.{partBytes, fixedBytes, keyFits};
-ghost use Rattle.payload.specs.Encode.{asked, isWellFormed, PartPut, PayloadPut, EncodeIs};
+ghost use Rattle.payload.specs.Encode.{asked, isWellFormed, encoding, putOf, encodeOf, PartPut};
+
+pub mod kind;
 
 // What the entry call takes, and what a table record holds.
 pub const KEY_MOST: usize = 64;
@@ -14,6 +21,12 @@ pub const VALUE_MOST: usize = 252;
 
 // The bytes of kind, tx number and timestamp.
 pub const FIXED: usize = 20;
+
+// The bytes of the length that stands before a key or a value.
+pub const LENGTH: usize = 8;
+
+// The longest payload of a well-formed entry: an update's.
+pub const PAYLOAD_MOST: usize = FIXED + 3 * LENGTH + KEY_MOST + 2 * VALUE_MOST;
 
 pub enum Encoded {
     // How many bytes were written at the target's front.
@@ -36,11 +49,11 @@ pub fn well_formed(kind: u64, key: &[u8], old_value: &[u8], new_value: &[u8]) ->
     ensures { λ r. ⌜ r ≡ isWellFormed (asked kind (now (key .entry)) (now («old_value» .entry)) (now («new_value» .entry))) ⌝ }
 {
     match kind {
-        0 => key_fits(key) && new_value.len() <= VALUE_MOST,
-        1 => key_fits(key) && (old_value.len() <= VALUE_MOST && new_value.len() <= VALUE_MOST),
-        2 => key_fits(key) && old_value.len() <= VALUE_MOST,
-        3 => true,
-        4 => true,
+        INSERT => key_fits(key) && new_value.len() <= VALUE_MOST,
+        UPDATE => key_fits(key) && (old_value.len() <= VALUE_MOST && new_value.len() <= VALUE_MOST),
+        DELETE => key_fits(key) && old_value.len() <= VALUE_MOST,
+        COMMIT => true,
+        ABORT => true,
         _ => false,
     }
 }
@@ -59,12 +72,12 @@ fn put_part(target: &mut [u8], at: usize, part: &[u8]) -> usize
     ensures { λ r. ⌜ PartPut (now (target .entry)) at (now (part .entry)) (now (target .exit)) r ⌝ }
 {
     fields::put_u64(target, at, part.len() as u64);
-    fields::bytes::copy(target, at + 8, part);
-    at + 8 + part.len()
+    fields::bytes::copy(target, at + LENGTH, part);
+    at + LENGTH + part.len()
 }
 
 fn put_marker(target: &mut [u8], kind: u64, tx_id: u64, timestamp: u64) -> Encoded
-    ensures { λ r. ⌜ PayloadPut (fixedBytes kind «tx_id» timestamp) (now (target .entry)) (now (target .exit)) r ⌝ }
+    ensures { λ r. ⌜ encoding r (now (target .exit)) ≡ putOf (fixedBytes kind «tx_id» timestamp) (now (target .entry)) ⌝ }
 {
     if target.len() < FIXED {
         return Encoded::NoRoom;
@@ -82,10 +95,9 @@ fn put_two(
     value: &[u8],
 ) -> Encoded
     requires { ⌜ (length (now key) ≤ 64) × (length (now value) ≤ 252) ⌝ }
-    ensures { λ r. ⌜ PayloadPut (fixedBytes kind «tx_id» timestamp ++ (partBytes (now (key .entry)) ++ partBytes (now (value .entry)))) (now (target .entry)) (now (target .exit)) r ⌝ }
+    ensures { λ r. ⌜ encoding r (now (target .exit)) ≡ putOf (fixedBytes kind «tx_id» timestamp ++ (partBytes (now (key .entry)) ++ partBytes (now (value .entry)))) (now (target .entry)) ⌝ }
 {
-    // The fixed bytes and two lengths.
-    let n = 36 + key.len() + value.len();
+    let n = FIXED + 2 * LENGTH + key.len() + value.len();
     if target.len() < n {
         return Encoded::NoRoom;
     }
@@ -104,10 +116,9 @@ fn put_three(
     new_value: &[u8],
 ) -> Encoded
     requires { ⌜ (length (now key) ≤ 64) × (length (now «old_value») ≤ 252) × (length (now «new_value») ≤ 252) ⌝ }
-    ensures { λ r. ⌜ PayloadPut (fixedBytes kind «tx_id» timestamp ++ (partBytes (now (key .entry)) ++ (partBytes (now («old_value» .entry)) ++ partBytes (now («new_value» .entry))))) (now (target .entry)) (now (target .exit)) r ⌝ }
+    ensures { λ r. ⌜ encoding r (now (target .exit)) ≡ putOf (fixedBytes kind «tx_id» timestamp ++ (partBytes (now (key .entry)) ++ (partBytes (now («old_value» .entry)) ++ partBytes (now («new_value» .entry))))) (now (target .entry)) ⌝ }
 {
-    // The fixed bytes and three lengths.
-    let n = 44 + key.len() + old_value.len() + new_value.len();
+    let n = FIXED + 3 * LENGTH + key.len() + old_value.len() + new_value.len();
     if target.len() < n {
         return Encoded::NoRoom;
     }
@@ -127,15 +138,15 @@ pub fn encode(
     new_value: &[u8],
     target: &mut [u8],
 ) -> Encoded
-    ensures { λ r. ⌜ EncodeIs (asked kind (now (key .entry)) (now («old_value» .entry)) (now («new_value» .entry))) «tx_id» timestamp (now (target .entry)) (now (target .exit)) r ⌝ }
+    ensures { λ r. ⌜ encoding r (now (target .exit)) ≡ encodeOf (asked kind (now (key .entry)) (now («old_value» .entry)) (now («new_value» .entry))) «tx_id» timestamp (now (target .entry)) ⌝ }
 {
     if !well_formed(kind, key, old_value, new_value) {
         return Encoded::NotWellFormed;
     }
     match kind {
-        0 => put_two(target, kind, tx_id, timestamp, key, new_value),
-        1 => put_three(target, kind, tx_id, timestamp, key, old_value, new_value),
-        2 => put_two(target, kind, tx_id, timestamp, key, old_value),
+        INSERT => put_two(target, kind, tx_id, timestamp, key, new_value),
+        UPDATE => put_three(target, kind, tx_id, timestamp, key, old_value, new_value),
+        DELETE => put_two(target, kind, tx_id, timestamp, key, old_value),
         _ => put_marker(target, kind, tx_id, timestamp),
     }
 }

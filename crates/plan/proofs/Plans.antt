@@ -13,23 +13,19 @@ use lib.Seq.{sets}
 use Rattle.fields.specs.Le.{Bytes}
 use Rattle.fields.proofs.Numbers.{bytes-drop}
 use Rattle.fields.proofs.Cases.{caseB, tests}
-use Rattle.refusal.specs.declared.Refusal.the-variants.{NoNextSegmentId, NoRoom}
+use Rattle.refusal.specs.Answer.{refused, accepted, andThen, sound}
+use Rattle.refusal.proofs.Answers.{never-both, then-says}
+use Rattle.directory.specs.Lent.{mostOf}
+use Rattle.directory.specs.declared.lent.Lent.the-variants.{Directory}
 use Rattle.directory.specs.Record.{recordAt, recordBytes, recordsOf, endOf}
-use Rattle.directory.specs.Rule.{testOf, afterRecord, lastOf, newSegment}
+use Rattle.directory.specs.Rule.{testOf, followsOf, endBefore, afterRecord}
 use Rattle.directory.specs.declared.record.SegmentRecord.{SegmentRecord}
 use Rattle.directory.specs.declared.rule.Last.{Last}
-use Rattle.directory.specs.declared.rule.Last.the-variants.{NoSegment}
-use Rattle.directory.specs.declared.rule.Tested.{Tested}
-use Rattle.directory.specs.declared.rule.Tested.the-variants.{Sound}
-use Rattle.directory.specs.declared.rule.Tested.the-variants as Test
+use Rattle.directory.specs.declared.rule.Last.the-variants.{NoSegment, Segment}
 use Rattle.directory.proofs.Records.{record-held}
-use Rattle.directory.proofs.Rules.{follows-so, last-record}
-use Rattle.directory.proofs.Sound.{sound-says, sound-ends, sound-stored, sound-new, sound-grown}
-use Rattle.plan.specs.Plan.{noNextId, nextOf, segmentAfter, newSegmentOf, ifUsed, appendTestOf, behindOf, behindNew, planOf, planAfter, planAppendOf, writeBehind, lastUsed}
-use Rattle.plan.specs.declared.NewSegment.{NewSegment}
-use Rattle.plan.specs.declared.NewSegment.the-variants.{Record}
-use Rattle.plan.specs.declared.NewSegment.the-variants as New
-use Rattle.plan.specs.declared.Plan.the-variants as Planned
+use Rattle.directory.proofs.Rules.{follows-says, follows-so, lastOf, last-record}
+use Rattle.directory.proofs.Sound.{sound-says, sound-ends, sound-last, sound-stored, sound-grown}
+use Rattle.plan.specs.Plan.{lastUsed, lastIn, newSegment, noNextId, nextOf, newSegmentOf, appendTestOf, writeBehind, behindOf, planOf, planAppendOf}
 use Rattle.plan.specs.declared.Write.{Write}
 
 -- ---- a new segment
@@ -39,17 +35,17 @@ pub record HasNext (last : Last) (used records : ℕ) : Type 0 where
   pub id : noNextId last ≡ false
   pub unused : used < records
 
-next-says : (last : Last) (used records : ℕ) (s : SegmentRecord) → nextOf last used records ≡ Record s → HasNext last used records × (s ≡ newSegment last)
+next-says : (last : Last) (used records : ℕ) (s : SegmentRecord) → nextOf last used records ≡ accepted s → HasNext last used records × (s ≡ newSegment last)
 unfolding nextOf
 next-says last used records s e = told (noNextId last) refl (leb records used) refl e
   where
-    told : (p : Bool) → noNextId last ≡ p → (q : Bool) → leb records used ≡ q → cond p (New.Refused NoNextSegmentId) (cond q (New.Refused NoRoom) (Record (newSegment last))) ≡ Record s → HasNext last used records × (s ≡ newSegment last)
-    told true f q g e = let z : _≡_ {A = ℕ} 0 1 = cc in absurd (omega arith)
-    told false f true g e = let z : _≡_ {A = ℕ} 0 1 = cc in absurd (omega arith)
+    told : (p : Bool) → noNextId last ≡ p → (q : Bool) → leb records used ≡ q → cond p (refused 4) (cond q (refused 5) (accepted (newSegment last))) ≡ accepted s → HasNext last used records × (s ≡ newSegment last)
+    told true f q g e = never-both e
+    told false f true g e = never-both e
     told false f false g e = (record { id = f; unused = omega (arith, tests) }, cc)
 
 -- it has no bytes yet
-pub new-end : (r s : SegmentRecord) (used records : ℕ) → nextOf (afterRecord r) used records ≡ Record s → endOf s ≡ endOf r
+pub new-end : (r s : SegmentRecord) (used records : ℕ) → nextOf (afterRecord r) used records ≡ accepted s → endOf s ≡ endOf r
 unfolding newSegment
 new-end r s used records e = rw (next-says _ _ _ _ e .1) (omega arith)
 
@@ -60,12 +56,12 @@ pub record IsBehind (s : SegmentRecord) (k : ℕ) (rotated : Bool) (area payload
   pub room : endOf s + (13 + payload) ≤ area
   pub write : w ≡ writeBehind s k rotated payload
 
-behind-says : (s : SegmentRecord) (k : ℕ) (rotated : Bool) (area payload : ℕ) (w : Write) → behindOf s k rotated area payload ≡ Planned.Write w → IsBehind s k rotated area payload w
+behind-says : (s : SegmentRecord) (k : ℕ) (rotated : Bool) (area payload : ℕ) (w : Write) → behindOf s k rotated area payload ≡ accepted w → IsBehind s k rotated area payload w
 unfolding behindOf
 behind-says s k rotated area payload w e = told (leb (13 + payload) (area - endOf s)) refl e
   where
-    told : (p : Bool) → leb (13 + payload) (area - endOf s) ≡ p → cond p (Planned.Write (writeBehind s k rotated payload)) (Planned.Refused NoRoom) ≡ Planned.Write w → IsBehind s k rotated area payload w
-    told false f e = let z : _≡_ {A = ℕ} 0 1 = cc in absurd (omega arith)
+    told : (p : Bool) → leb (13 + payload) (area - endOf s) ≡ p → cond p (accepted (writeBehind s k rotated payload)) (refused 5) ≡ accepted w → IsBehind s k rotated area payload w
+    told false f e = never-both e
     told true f e = record { room = omega (arith, tests); write = cc }
 
 -- ---- the last used record: the active segment's
@@ -76,7 +72,7 @@ module _ (d : List ℕ) (used : ℕ) (h : 0 < used) where
       let e : used ≡ used - 1 + 1 = omega arith in
       ap (λ (n : ℕ). lastOf NoSegment (recordsOf n d)) e ∙ last-record NoSegment (used - 1) d
 
-  pub last-in : (area : ℕ) → testOf area d used ≡ Sound → endOf (lastUsed d used) ≤ area
+  pub last-in : (area : ℕ) → testOf area d used ≡ sound → endOf (lastUsed d used) ≤ area
   last-in area e = sound-ends area d used e (used - 1) (omega arith)
 
 -- an id below the last one has a next
@@ -86,32 +82,58 @@ next-id s b e = omega (arith, tests, record-held s b .id)
 -- ---- opening and rotating
 
 pub record Opens (area : ℕ) (d : List ℕ) (used : ℕ) (s : SegmentRecord) : Type 0 where
-  pub sound : testOf area d used ≡ Sound
-  pub next : HasNext (lastOf NoSegment (recordsOf used d)) used (length d / 24)
-  pub segment : s ≡ newSegment (lastOf NoSegment (recordsOf used d))
+  pub sounds : testOf area d used ≡ sound
+  pub next : HasNext (lastIn d used) used (length d / 24)
+  pub segment : s ≡ newSegment (lastIn d used)
 
-pub open-says : (area : ℕ) (d : List ℕ) (used : ℕ) (s : SegmentRecord) → newSegmentOf area d used ≡ Record s → Opens area d used s
+pub open-says : (area : ℕ) (d : List ℕ) (used : ℕ) (s : SegmentRecord) → newSegmentOf area d used ≡ accepted s → Opens area d used s
 unfolding newSegmentOf
-open-says area d used s e = told (testOf area d used) refl e
-  where
-    told : (t : Tested) → testOf area d used ≡ t → segmentAfter t (nextOf (lastOf NoSegment (recordsOf used d)) used (length d / 24)) ≡ Record s → Opens area d used s
-    told (Test.Refused refusal) f e = let z : _≡_ {A = ℕ} 0 1 = cc in absurd (omega arith)
-    told Sound f e = let n = next-says _ _ _ _ e in record { sound = f; next = n .0; segment = n .1 }
+open-says area d used s e =
+    let t = then-says (testOf area d used) (λ _. nextOf (lastIn d used) used (length d / 24)) s e in
+    let n = next-says _ _ _ _ (t .second) in
+    record { sounds = t .first; next = n .0; segment = n .1 }
+
+-- what a new segment comes after: nothing, or the last used record
+last-none : (d : List ℕ) → lastIn d zero ≡ NoSegment
+unfolding lastIn
+last-none d = refl
+
+last-some : (d : List ℕ) (n : ℕ) → lastIn d (suc n) ≡ afterRecord (lastUsed d (suc n))
+unfolding lastIn
+last-some d n = caseB (eqb (suc n) 0) (λ q. absurd (omega (arith, tests))) (λ q. rw q)
+
+-- the same, by the list of the used records
+pub last-in-is : (d : List ℕ) (used : ℕ) → lastOf NoSegment (recordsOf used d) ≡ lastIn d used
+unfolding lastOf recordsOf
+last-in-is d zero = rw (last-none d)
+last-in-is d (suc n) = rw (last-some d n) (last-is d (suc n) (omega arith))
 
 -- the new segment's id has 8 bytes
-new-id : (d : List ℕ) (used : ℕ) → Bytes d → noNextId (lastOf NoSegment (recordsOf used d)) ≡ false → newSegment (lastOf NoSegment (recordsOf used d)) .id < 2 ^ 64
-unfolding newSegment lastOf recordsOf
-new-id d zero b e = omega arith
+new-id : (d : List ℕ) (used : ℕ) → Bytes d → noNextId (lastIn d used) ≡ false → newSegment (lastIn d used) .id < 2 ^ 64
+unfolding newSegment
+new-id d zero b e = rw (last-none d) (omega arith)
 new-id d (suc n) b e =
-    let h : 0 < suc n = omega arith in
-    rw (last-is d (suc n) h) (next-id (drop (24 * (suc n - 1)) d) (bytes-drop (24 * (suc n - 1)) d b) (rw (last-is d (suc n) h) at e))
+    rw (last-some d n) (next-id (drop (24 * (suc n - 1)) d) (bytes-drop (24 * (suc n - 1)) d b) (rw (last-some d n) at e))
+
+new-follows : (area : ℕ) (last : Last) → endBefore last ≤ area → followsOf area last (newSegment last) ≡ true
+unfolding newSegment
+new-follows area NoSegment h = follows-so area NoSegment (record { id = 1; start = 0; length = 0 }) (record { id = refl; start = omega arith; end = omega arith })
+new-follows area (Segment id end) h = follows-so area (Segment id end) (record { id = id + 1; start = end; length = 0 }) (record { id = lt-ltb id (id + 1) (omega arith); start = omega arith; end = omega arith })
 
 -- the directory keeps its rule
-pub open-keeps : (area : ℕ) (d : List ℕ) (used : ℕ) (s : SegmentRecord) → Bytes d → newSegmentOf area d used ≡ Record s → testOf area (sets d (24 * used) (recordBytes s)) (used + 1) ≡ Sound
+pub open-keeps : (area : ℕ) (d : List ℕ) (used : ℕ) (s : SegmentRecord) → Bytes d → newSegmentOf area d used ≡ accepted s → testOf area (sets d (24 * used) (recordBytes s)) (used + 1) ≡ sound
 open-keeps area d used s b e =
     let o = open-says area d used s e in
     let u = o .next .unused in
-    rw (o .segment) (sound-new area d used (o .sound) (omega arith) (new-id d used b (o .next .id)))
+    let q = sound-says area d used (o .sounds) in
+    let last = lastIn d used in
+    let f = new-follows area last (rw (last-in-is d used) at (sound-last area d used (o .sounds))) in
+    let g = follows-says area last (newSegment last) f in
+    rw (o .segment)
+    (sound-stored area d used used (newSegment last) q (omega arith)
+    (record { id = new-id d used b (o .next .id); start = omega arith; length = omega arith })
+    (q .rule)
+    (rw (last-in-is d used) f))
 
 -- ---- an append
 
@@ -121,19 +143,19 @@ pub record Rotates (area : ℕ) (d : List ℕ) (used payload : ℕ) (w : Write) 
   pub behind : IsBehind (newSegment (afterRecord (lastUsed d used))) used true area payload w
 
 -- the entry goes behind the active segment, or behind a new one
-pub plan-says : (bound area : ℕ) (d : List ℕ) (used payload : ℕ) (w : Write) → planOf bound area d used payload ≡ Planned.Write w → IsBehind (lastUsed d used) (used - 1) false area payload w ⊎ Rotates area d used payload w
+pub plan-says : (bound area : ℕ) (d : List ℕ) (used payload : ℕ) (w : Write) → planOf bound area d used payload ≡ accepted w → IsBehind (lastUsed d used) (used - 1) false area payload w ⊎ Rotates area d used payload w
 unfolding planOf
 plan-says bound area d used payload w e =
-    caseB (leb bound (lastUsed d used .length)) (λ q. inr (fresh _ refl (rw q at e))) (λ q. inl (behind-says _ _ _ _ _ _ (rw q at e)))
+    caseB (leb bound (lastUsed d used .length)) (λ q. inr (fresh (rw q at e))) (λ q. inl (behind-says _ _ _ _ _ _ (rw q at e)))
   where
-    fresh : (n : NewSegment) → nextOf (afterRecord (lastUsed d used)) used (length d / 24) ≡ n → behindNew n used area payload ≡ Planned.Write w → Rotates area d used payload w
-    fresh (New.Refused refusal) f e = let z : _≡_ {A = ℕ} 0 1 = cc in absurd (omega arith)
-    fresh (Record s) f e =
-        let n = next-says _ _ _ _ f in
-        record { next = n .0; behind = rw (n .1) at (behind-says _ _ _ _ _ _ e) }
+    fresh : andThen (nextOf (afterRecord (lastUsed d used)) used (length d / 24)) (λ s. behindOf s used true area payload) ≡ accepted w → Rotates area d used payload w
+    fresh e =
+        let t = then-says (nextOf (afterRecord (lastUsed d used)) used (length d / 24)) (λ s. behindOf s used true area payload) w e in
+        let n = next-says _ _ _ _ (t .first) in
+        record { next = n .0; behind = rw (n .1) at (behind-says _ _ _ _ _ _ (t .second)) }
 
 -- header and payload have their place in the area, and record k is one of the directory's
-plan-fits : (bound : ℕ) (area : ℕ) (d : List ℕ) (used payload : ℕ) (w : Write) → testOf area d used ≡ Sound → 0 < used → planOf bound area d used payload ≡ Planned.Write w → (w .at + (13 + payload) ≤ area) × (w .k < 4_097)
+plan-fits : (bound : ℕ) (area : ℕ) (d : List ℕ) (used payload : ℕ) (w : Write) → testOf area d used ≡ sound → 0 < used → planOf bound area d used payload ≡ accepted w → (w .at + (13 + payload) ≤ area) × (w .k ≤ mostOf Directory)
 plan-fits bound area d used payload w e h p =
     let s = sound-says area d used e in
     ⊎-elim (λ b. rw (b .write) (b .room, omega arith)) (λ r. rw (r .behind .write) (r .behind .room, omega arith)) (plan-says bound area d used payload w p)
@@ -151,7 +173,7 @@ pub record Moves (last : SegmentRecord) (used : ℕ) (w : Write) : Type 0 where
   pub start : w .segment .start ≡ endOf last
   pub k : w .k ≡ used
 
-pub plan-id : (bound area : ℕ) (d : List ℕ) (used payload : ℕ) (w : Write) → 0 < used → planOf bound area d used payload ≡ Planned.Write w → Stays (lastUsed d used) used w ⊎ Moves (lastUsed d used) used w
+pub plan-id : (bound area : ℕ) (d : List ℕ) (used payload : ℕ) (w : Write) → 0 < used → planOf bound area d used payload ≡ accepted w → Stays (lastUsed d used) used w ⊎ Moves (lastUsed d used) used w
 unfolding newSegment
 plan-id bound area d used payload w h p =
     ⊎-elim (λ b. inl (rw (b .write) (record { rotated = refl; id = refl; start = refl; k = omega arith })))
@@ -159,18 +181,18 @@ plan-id bound area d used payload w h p =
     (plan-says bound area d used payload w p)
 
 -- the directory keeps its rule, rotated or not
-pub plan-keeps : (bound area : ℕ) (d : List ℕ) (used payload : ℕ) (w : Write) → Bytes d → testOf area d used ≡ Sound → 0 < used → planOf bound area d used payload ≡ Planned.Write w → testOf area (sets d (24 * w .k) (recordBytes (w .segment))) (w .k + 1) ≡ Sound
+pub plan-keeps : (bound area : ℕ) (d : List ℕ) (used payload : ℕ) (w : Write) → Bytes d → testOf area d used ≡ sound → 0 < used → planOf bound area d used payload ≡ accepted w → testOf area (sets d (24 * w .k) (recordBytes (w .segment))) (w .k + 1) ≡ sound
 unfolding newSegment
 plan-keeps bound area d used payload w b e h p =
     ⊎-elim (λ i. rw (i .write) (grown (i .room))) (λ r. rw (r .behind .write) (rotated (r .next) (r .behind .room)))
     (plan-says bound area d used payload w p)
   where
-    grown : endOf (lastUsed d used) + (13 + payload) ≤ area → testOf area (sets d (24 * (used - 1)) (recordBytes (writeBehind (lastUsed d used) (used - 1) false payload .segment))) (used - 1 + 1) ≡ Sound
+    grown : endOf (lastUsed d used) + (13 + payload) ≤ area → testOf area (sets d (24 * (used - 1)) (recordBytes (writeBehind (lastUsed d used) (used - 1) false payload .segment))) (used - 1 + 1) ≡ sound
     grown m =
         let u : used - 1 + 1 ≡ used = omega arith in
         sound-grown area d (used - 1) (writeBehind (lastUsed d used) (used - 1) false payload .segment) b (rw u e) refl refl (omega arith)
 
-    rotated : HasNext (afterRecord (lastUsed d used)) used (length d / 24) → endOf (newSegment (afterRecord (lastUsed d used))) + (13 + payload) ≤ area → testOf area (sets d (24 * used) (recordBytes (writeBehind (newSegment (afterRecord (lastUsed d used))) used true payload .segment))) (used + 1) ≡ Sound
+    rotated : HasNext (afterRecord (lastUsed d used)) used (length d / 24) → endOf (newSegment (afterRecord (lastUsed d used))) + (13 + payload) ≤ area → testOf area (sets d (24 * used) (recordBytes (writeBehind (newSegment (afterRecord (lastUsed d used))) used true payload .segment))) (used + 1) ≡ sound
     rotated n m =
         let q = lastUsed d used in
         let t = sound-says area d used e in
@@ -183,25 +205,20 @@ plan-keeps bound area d used payload w b e h p =
 
 -- ---- with its test
 
-pub test-says : (area : ℕ) (d : List ℕ) (used : ℕ) → appendTestOf area d used ≡ Sound → (testOf area d used ≡ Sound) × (0 < used)
+pub test-says : (area : ℕ) (d : List ℕ) (used : ℕ) → appendTestOf area d used ≡ sound → (testOf area d used ≡ sound) × (0 < used)
 unfolding appendTestOf
-test-says area d used e = told (testOf area d used) refl (eqb used 0) refl e
-  where
-    told : (t : Tested) → testOf area d used ≡ t → (z : Bool) → eqb used 0 ≡ z → ifUsed t used ≡ Sound → (testOf area d used ≡ Sound) × (0 < used)
-    told (Test.Refused refusal) f z g e = let z : _≡_ {A = ℕ} 0 1 = cc in absurd (omega arith)
-    told Sound f true g e = let h = rw g at e in let z : _≡_ {A = ℕ} 0 1 = cc in absurd (omega arith)
-    told Sound f false g e = (f, omega (arith, tests))
+test-says area d used e =
+    let t = then-says (testOf area d used) (λ _. cond (eqb used 0) (refused 2) sound) tt e in
+    caseB (eqb used 0) (λ q. never-both (rw q at (t .second))) (λ q. (t .first, omega (arith, tests)))
 
 -- the test was passed, and the plan is that of the tested
-append-says : (bound area : ℕ) (d : List ℕ) (used payload : ℕ) (w : Write) → planAppendOf bound area d used payload ≡ Planned.Write w → (appendTestOf area d used ≡ Sound) × (planOf bound area d used payload ≡ Planned.Write w)
+pub append-says : (bound area : ℕ) (d : List ℕ) (used payload : ℕ) (w : Write) → planAppendOf bound area d used payload ≡ accepted w → (appendTestOf area d used ≡ sound) × (planOf bound area d used payload ≡ accepted w)
 unfolding planAppendOf
-append-says bound area d used payload w e = told (appendTestOf area d used) refl e
-  where
-    told : (t : Tested) → appendTestOf area d used ≡ t → planAfter t (planOf bound area d used payload) ≡ Planned.Write w → (appendTestOf area d used ≡ Sound) × (planOf bound area d used payload ≡ Planned.Write w)
-    told (Test.Refused refusal) f e = let z : _≡_ {A = ℕ} 0 1 = cc in absurd (omega arith)
-    told Sound f e = (f, e)
+append-says bound area d used payload w e =
+    let t = then-says (appendTestOf area d used) (λ _. planOf bound area d used payload) w e in
+    (t .first, t .second)
 
-pub append-fits : (bound area : ℕ) (d : List ℕ) (used payload : ℕ) (w : Write) → planAppendOf bound area d used payload ≡ Planned.Write w → (w .at + (13 + payload) ≤ area) × (w .k < 4_097)
+pub append-fits : (bound area : ℕ) (d : List ℕ) (used payload : ℕ) (w : Write) → planAppendOf bound area d used payload ≡ accepted w → (w .at + (13 + payload) ≤ area) × (w .k ≤ mostOf Directory)
 append-fits bound area d used payload w e =
     let s = append-says bound area d used payload w e in
     let t = test-says area d used (s .0) in

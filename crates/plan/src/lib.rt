@@ -7,11 +7,10 @@ use refusal::Refusal;
 ghost use mathlib.Core.Path.{_≡_};
 ghost use Prim.Native.Nat.{_<_, _≤_};
 ghost use mathlib.Core.Bool.{false};
-ghost use Rattle.directory.specs.Record.{endOf, recordsOf};
-ghost use Rattle.directory.specs.Rule.{testOf, lastOf, newSegment};
-ghost use Rattle.directory.specs.declared.rule.Last.the-variants.{NoSegment};
-ghost use Rattle.directory.specs.declared.rule.Tested.the-variants.{Sound};
-ghost use Rattle.plan.specs.Plan.{noNextId, nextOf, newSegmentOf, appendTestOf, behindOf, planOf, planAppendOf};
+ghost use Rattle.refusal.specs.Answer.{sound};
+ghost use Rattle.directory.specs.Record.{endOf};
+ghost use Rattle.directory.specs.Rule.{testedAs, testOf};
+ghost use Rattle.plan.specs.Plan.{lastIn, newSegment, noNextId, nextOf, newSegmentOf, newSegmentAs, appendTestOf, behindOf, planOf, planAppendOf, plannedAs};
 
 // A header's bytes, as a number of the directory.
 const HEADER: u64 = WalEntryHeader::SIZE as u64;
@@ -35,8 +34,8 @@ pub enum Plan {
 }
 
 fn last_used(area_len: usize, directory: &[u8], used: usize) -> Last
-    requires { ⌜ testOf «area_len» (now directory) used ≡ Sound ⌝ }
-    ensures { λ r. ⌜ r ≡ lastOf NoSegment (recordsOf used (now (directory .entry))) ⌝ }
+    requires { ⌜ testOf «area_len» (now directory) used ≡ sound ⌝ }
+    ensures { λ r. ⌜ r ≡ lastIn (now (directory .entry)) used ⌝ }
 {
     if used == 0 {
         return Last::NoSegment;
@@ -77,7 +76,7 @@ fn segment_after(last: Last) -> SegmentRecord
 
 // 4 goes before 5.
 fn next(last: Last, used: usize, records: usize) -> NewSegment
-    ensures { λ r. ⌜ r ≡ nextOf last used records ⌝ }
+    ensures { λ r. ⌜ newSegmentAs r ≡ nextOf last used records ⌝ }
 {
     if no_next_id(last) {
         return NewSegment::Refused(Refusal::NoNextSegmentId);
@@ -89,7 +88,7 @@ fn next(last: Last, used: usize, records: usize) -> NewSegment
 }
 
 pub fn new_segment(area_len: usize, directory: &[u8], used: usize) -> NewSegment
-    ensures { λ r. ⌜ r ≡ newSegmentOf «area_len» (now (directory .entry)) used ⌝ }
+    ensures { λ r. ⌜ newSegmentAs r ≡ newSegmentOf «area_len» (now (directory .entry)) used ⌝ }
 {
     match directory::rule::test(area_len, directory, used) {
         Tested::Refused(refusal) => NewSegment::Refused(refusal),
@@ -103,7 +102,7 @@ pub fn new_segment(area_len: usize, directory: &[u8], used: usize) -> NewSegment
 
 // Refusals 1 and 2 of an append: a used count of 0 is 2.
 pub fn append_test(area_len: usize, directory: &[u8], used: usize) -> Tested
-    ensures { λ r. ⌜ r ≡ appendTestOf «area_len» (now (directory .entry)) used ⌝ }
+    ensures { λ r. ⌜ testedAs r ≡ appendTestOf «area_len» (now (directory .entry)) used ⌝ }
 {
     match directory::rule::test(area_len, directory, used) {
         Tested::Refused(refusal) => Tested::Refused(refusal),
@@ -119,7 +118,7 @@ pub fn append_test(area_len: usize, directory: &[u8], used: usize) -> Tested
 // An entry behind a segment. 13 and the payload's length are held against what is left of the area, one after the other.
 fn behind(segment: SegmentRecord, k: usize, rotated: bool, area_len: usize, len: usize) -> Plan
     requires { ⌜ endOf segment ≤ «area_len» ⌝ }
-    ensures { λ r. ⌜ r ≡ behindOf segment k rotated «area_len» len ⌝ }
+    ensures { λ r. ⌜ plannedAs r ≡ behindOf segment k rotated «area_len» len ⌝ }
 {
     let end = segment.start + segment.length;
     let left = area_len as u64 - end;
@@ -144,8 +143,8 @@ fn behind(segment: SegmentRecord, k: usize, rotated: bool, area_len: usize, len:
 // "Append first rotates if the active length is at or above the bound": the length as it is. An entry that would pass the
 // bound still goes into the active segment.
 fn plan_tested(bound: u64, area_len: usize, directory: &[u8], used: usize, len: usize) -> Plan
-    requires { ⌜ (testOf «area_len» (now directory) used ≡ Sound) × (0 < used) ⌝ }
-    ensures { λ r. ⌜ r ≡ planOf bound «area_len» (now (directory .entry)) used len ⌝ }
+    requires { ⌜ (testOf «area_len» (now directory) used ≡ sound) × (0 < used) ⌝ }
+    ensures { λ r. ⌜ plannedAs r ≡ planOf bound «area_len» (now (directory .entry)) used len ⌝ }
 {
     let last = directory::record::record_at(directory, used - 1);
     if last.length < bound {
@@ -163,7 +162,7 @@ fn plan_tested(bound: u64, area_len: usize, directory: &[u8], used: usize, len: 
 
 // 1 and 2 go before 4 and 5.
 pub fn plan_append(bound: u64, area_len: usize, directory: &[u8], used: usize, len: usize) -> Plan
-    ensures { λ r. ⌜ r ≡ planAppendOf bound «area_len» (now (directory .entry)) used len ⌝ }
+    ensures { λ r. ⌜ plannedAs r ≡ planAppendOf bound «area_len» (now (directory .entry)) used len ⌝ }
 {
     match append_test(area_len, directory, used) {
         Tested::Refused(refusal) => Plan::Refused(refusal),

@@ -1,24 +1,56 @@
--- The laws of dense records: a record changed, added, inserted or removed in the bytes, and the records read back.
+-- The laws of records in bytes: read and moved in any bytes; where they are dense, a record changed, added, inserted or removed,
+-- and the records read back.
 -- Assumes nothing.
 use mathlib.Core.Path.{_≡_, refl, sym, ap, _∙_}
 use mathlib.Core.List.{List, [], _∷_, _++_, append-assoc}
-use Prim.Native.Nat.{ℕ, suc, _+_, _-_, _*_, _≤_}
-use native.Mathlib.Nat.{mul-zero, sub-zero}
+use Prim.Native.Nat.{ℕ, zero, suc, _+_, _-_, _*_, _<_, _≤_}
+use native.Mathlib.Nat.{mul-zero, mul-add, sub-zero}
 use native.Mathlib.Omega.{arith}
+use borrow.Author.Tests.{le-leb}
 use lib.ListN.{length, take, drop, replicate, length-append, length-replicate, replicate-append-replicate}
-use lib.Seq.{sets, take-at, drop-at}
-use Rattle.records.specs.Dense.{bytesOf, dense, recordsOf}
+use lib.Seq.{sets, take-at, drop-at, drop-drop}
+use Rattle.records.specs.Dense.{bytesOf, dense, recordsOf, All}
+use Rattle.records.specs.Moves.{movedUp, movedDown}
 use Rattle.records.proofs.Stores.{sets-part, sets-insert, sets-remove}
 
--- what holds of each of the records
 module _ {R : Type 0} (Good : R → Type 0) where
-  abbrev pub All : List R → Type 0
-  All [] = Unit {0}
-  All (r ∷ rs) = Good r × All rs
-
-  pub all-at : (before : List R) (r : R) (after : List R) → All (before ++ (r ∷ after)) → Good r
+  pub all-at : (before : List R) (r : R) (after : List R) → All Good (before ++ (r ∷ after)) → Good r
   all-at [] r after gs = gs .0
   all-at (b ∷ bs) r after gs = all-at bs r after (gs .1)
+
+-- the records of any bytes
+module _ {R : Type 0} (size : ℕ) (read : List ℕ → R) where
+  pub length-read : (n : ℕ) (s : List ℕ) → length (recordsOf size read n s) ≡ n
+  unfolding recordsOf
+  length-read zero s = refl
+  length-read (suc n) s = ap suc (length-read n (drop size s))
+
+  -- a turn of a loop over them
+  pub read-turn : (n k : ℕ) (s : List ℕ) → k < n → recordsOf size read (n - k) (drop (size * k) s) ≡ read (drop (size * k) s) ∷ recordsOf size read (n - (k + 1)) (drop (size * (k + 1)) s)
+  unfolding recordsOf
+  read-turn n k s h =
+      let e : n - k ≡ suc (n - (k + 1)) = omega arith in
+      let f : size * (k + 1) ≡ size * k + size = omega arith in
+      rw (e, f, drop-drop)
+
+-- records of a size, moved by one
+module _ (size : ℕ) (s : List ℕ) (n k : ℕ) where
+  -- those from k on, up to the n-th, make room for one
+  pub made-room : k ≤ n → size * (n + 1) ≤ length s → movedUp s (size * k) (size * (n - k)) size ≡ sets s (size * (k + 1)) (take (size * (n - k)) (drop (size * k) s))
+  unfolding movedUp
+  made-room h l =
+      let a : size * k + size ≡ size * (k + 1) = omega arith in
+      let e : k + 1 + (n - k) ≡ n + 1 = omega arith in
+      rw (a, le-leb (size * (k + 1) + size * (n - k)) (length s) (rw (← mul-add size (k + 1) (n - k), e) l))
+
+  -- those behind k, up to the n-th, close up
+  pub closed-up : k < n → size * n ≤ length s → movedDown s (size * k) (size * (n - k - 1)) size ≡ sets s (size * k) (take (size * (n - (k + 1))) (drop (size * (k + 1)) s))
+  unfolding movedDown
+  closed-up h l =
+      let w : n - k - 1 ≡ n - (k + 1) = omega arith in
+      let a : size * k + size ≡ size * (k + 1) = omega arith in
+      let e : k + 1 + (n - (k + 1)) ≡ n = omega arith in
+      rw (w, a, le-leb (size * (k + 1) + size * (n - (k + 1))) (length s) (rw (← mul-add size (k + 1) (n - (k + 1)), e) l))
 
 zeros-split : (m n : ℕ) → m ≤ n → replicate {A = ℕ} n 0 ≡ replicate m 0 ++ replicate (n - m) 0
 zeros-split m n h =

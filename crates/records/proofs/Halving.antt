@@ -10,12 +10,12 @@ use lib.ListN.{length, getD, take, drop, length-append, length-drop}
 use lib.Seq.{split-at, length-take-le}
 use Rattle.fields.specs.declared.bytes.Ordering.{Ordering}
 use Rattle.fields.specs.declared.bytes.Ordering.the-variants.{Less, Equal, Greater}
-use Rattle.records.specs.Dense.{dense}
+use Rattle.records.specs.Dense.{dense, All}
 use Rattle.records.specs.Sorted.{byOrder, further, placeOf, Ascends}
 use Rattle.records.specs.Halving.{halve, halved, foundIn}
 use Rattle.records.specs.declared.Found.{Found}
 use Rattle.records.specs.declared.Found.the-variants.{At, Gap}
-use Rattle.records.proofs.Dense.{All, all-at, record-back}
+use Rattle.records.proofs.Dense.{all-at, record-back}
 use Rattle.records.proofs.Sorted.{IsOrder, caseO}
 
 -- a range has no records, or some

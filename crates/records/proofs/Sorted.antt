@@ -17,7 +17,7 @@ use Rattle.fields.proofs.Ordered.{flipped, compare-same, compare-equal, compare
 use Rattle.records.specs.Sorted.{compareNumbers, further, placeOf, recordOf, put, remove, Before, Ascends}
 use Rattle.records.specs.declared.Found.{Found}
 use Rattle.records.specs.declared.Found.the-variants.{At, Gap}
-use Rattle.records.proofs.Dense.{All}
+use Rattle.records.specs.Dense.{All}
 
 -- ---- orders
 

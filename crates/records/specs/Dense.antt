@@ -20,3 +20,8 @@ module _ {R : Type 0} (size : ℕ) (read : List ℕ → R) where
   unfoldable pub recordsOf : ℕ → List ℕ → List R
   recordsOf zero s = []
   recordsOf (suc n) s = read s ∷ recordsOf n (drop size s)
+
+-- what holds of each of the records
+abbrev pub All : {R : Type 0} → (Good : R → Type 0) → List R → Type 0
+All Good [] = Unit {0}
+All Good (r ∷ rs) = Good r × All Good rs

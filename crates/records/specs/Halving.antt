@@ -9,7 +9,7 @@ use Rattle.records.specs.declared.Found.{Found}
 use Rattle.records.specs.declared.Found.the-variants.{At, Gap}
 
 -- `order i` is how record i stands to the key. Each turn takes at least one record off the range, so turns as many as the
--- range has records are enough. What a `let` binds waits, so of the two halves one is computed.
+-- range has records are enough.
 module _ (order : ℕ → Ordering) where
   unfoldable pub halve : (turns from len : ℕ) → Found
   halve zero from len = Gap from

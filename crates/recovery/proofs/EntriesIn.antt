@@ -10,10 +10,11 @@ use Rattle.directory.specs.Image.{segmentBytes}
 use Rattle.directory.specs.declared.record.SegmentRecord.{SegmentRecord}
 use Rattle.entry.specs.Decode.{bytesAt}
 use Rattle.scan.specs.Read.{Good, readFrom, readSegment}
-use Rattle.scan.proofs.Goods.{Each, GoodIn, read-each}
-use Rattle.records.proofs.Dense.{All}
+use Rattle.scan.proofs.Goods.{GoodIn, read-each}
+use Rattle.records.specs.Dense.{All}
 use Rattle.lists.specs.Entries.{listed}
-use Rattle.recovery.specs.Log.{listedFrom, readLog, payloadIn, EntryIn}
+use Rattle.recovery.specs.Log.{listedFrom, readLog}
+use Rattle.recovery.specs.Payload.{payloadIn, EntryIn}
 use Rattle.recovery.proofs.Concludes.{all-both}
 
 -- a part of a beginning is a part of the whole
@@ -35,7 +36,7 @@ module _ (area : List ℕ) (r : SegmentRecord) where
       rw (part-of (p .start) (p .len) (r .length) (drop (r .start) area) (omega (arith, i .end)), drop-drop) in
       record { end = omega (arith, i .end, i .least); decodes = rw (e, i .decoded) }
 
-  all-in : (gs : List Good) → Each (GoodIn (segmentBytes area r)) gs → All (EntryIn area) (listedFrom (r .start) gs)
+  all-in : (gs : List Good) → All (GoodIn (segmentBytes area r)) gs → All (EntryIn area) (listedFrom (r .start) gs)
   all-in [] e = tt
   all-in (g ∷ gs) e = (listed-in g (e .0), all-in gs (e .1))
 

@@ -1,4 +1,5 @@
 pub mod Log
+pub mod Payload
 pub mod Recover
 pub mod Checkpoint
 pub mod Reach

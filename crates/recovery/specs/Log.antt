@@ -1,15 +1,10 @@
 -- Document 01, "Recovery": what is read of a log. "Segments are read by ascending id", which is the directory's order.
 -- Assumes nothing.
-use Prim.Native.Nat.{ℕ, _+_, _≤_}
-use mathlib.Core.Path.{_≡_}
-use mathlib.Core.Bool.{Bool, true, false}
+use Prim.Native.Nat.{ℕ, _+_}
 use mathlib.Core.List.{List, [], _∷_, _++_, map}
-use lib.ListN.{length, take, drop}
+use lib.ListN.{length}
 use Rattle.directory.specs.Image.{segmentBytes}
 use Rattle.directory.specs.declared.record.SegmentRecord.{SegmentRecord}
-use Rattle.entry.specs.Decode.{decodeOf}
-use Rattle.entry.specs.declared.decoding.Decoded.{Decoded}
-use Rattle.entry.specs.declared.decoding.Decoded.the-variants.{Refused, Entry}
 use Rattle.scan.specs.Read.{Good, Reading, readSegment}
 use Rattle.lists.specs.Entries.{listed}
 use Rattle.lists.specs.declared.entries.EntryRecord.{EntryRecord}
@@ -39,16 +34,3 @@ readLog area (r ∷ rs) = andThen (r .start) (readSegment (segmentBytes area r))
 -- the record of a segment that is the whole area
 abbrev pub whole : List ℕ → SegmentRecord
 whole area = record { id = 1; start = 0; length = length area }
-
--- the payload that an entry record leads to
-unfoldable pub payloadIn : (area : List ℕ) → EntryRecord → List ℕ
-payloadIn area e = take (e .len) (drop (e .place) area)
-
-abbrev pub isEntry : Decoded → Bool
-isEntry Refused = false
-isEntry (Entry entry used) = true
-
--- it lies in the area, and decodes
-pub record EntryIn (area : List ℕ) (e : EntryRecord) : Type 0 where
-  pub end : e .place + e .len ≤ length area
-  pub decodes : isEntry (decodeOf (payloadIn area e)) ≡ true

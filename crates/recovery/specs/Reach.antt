@@ -13,12 +13,9 @@ use Rattle.lists.specs.declared.admit.Lists.{Lists}
 use Rattle.lists.specs.declared.admit.Full.{Full}
 use Rattle.lists.specs.declared.admit.Full.the-variants.{Room, Transactions, Entries}
 use Rattle.lists.specs.Transactions.{transactionAt}
-use Rattle.lists.specs.Tally.{tallyOf}
 use Rattle.records.specs.Dense.{recordsOf}
-use Rattle.refusal.specs.declared.Refusal.the-variants.{EntryListFull, TransactionsFull}
 use Rattle.recovery.specs.Log.{listedFrom}
-use Rattle.recovery.specs.Recover.{nextOf, Recovering, recovering, refusedEmpty}
-use Rattle.recovery.specs.declared.RecoveryStats.{RecoveryStats}
+use Rattle.recovery.specs.Recover.{nextOf, statsOf, Recovering, recovering, refusedEmpty}
 use Rattle.recovery.specs.declared.Recovered.{Recovered}
 use Rattle.recovery.specs.declared.Recovery.the-variants as Recovers
 use Rattle.recovery.specs.declared.read.Progress.{Progress}
@@ -71,31 +68,20 @@ unread =
       «checksum_failures» = 0;
     }
 
--- the counts, by the transactions' bytes
-unfoldable pub statsBy : (transactions : List ℕ) → (count : ℕ) → (partial checksum : ℕ) → RecoveryStats
-statsBy transactions count partial checksum =
+-- what recovery says of it: the counts are read off the transactions
+unfoldable pub toldBy : (transactions : List ℕ) → Progress → Recovered
+toldBy transactions p =
     record {
-      «total_transactions» = count;
-      committed = tallyOf (recordsOf 24 transactionAt count transactions) .committed;
-      aborted = tallyOf (recordsOf 24 transactionAt count transactions) .aborted;
-      incomplete = tallyOf (recordsOf 24 transactionAt count transactions) .incomplete;
-      «partial_writes» = partial;
-      «checksum_failures» = checksum;
-    }
-
-unfoldable pub recoveredBy : (transactions : List ℕ) → Progress → Recovered
-recoveredBy transactions p =
-    record {
-      stats = statsBy transactions (p .lists .transactions) (p .«partial_writes») (p .«checksum_failures»);
+      stats = statsOf (recordsOf 24 transactionAt (p .lists .transactions) transactions) (p .«partial_writes») (p .«checksum_failures»);
       entries = p .lists .entries;
       next = nextOf (p .lists .highest);
     }
 
 -- 6 and 7 empty both lists
-abbrev pub concludedAs : Full → (entries transactions : List ℕ) → Progress → Recovering
-concludedAs Room entries transactions p = recovering (Recovers.Done (recoveredBy transactions p)) entries transactions
-concludedAs Entries entries transactions p = refusedEmpty EntryListFull (length entries) (length transactions)
-concludedAs Transactions entries transactions p = refusedEmpty TransactionsFull (length entries) (length transactions)
+abbrev pub concludedBy : Full → (entries transactions : List ℕ) → Progress → Recovering
+concludedBy Room entries transactions p = recovering (Recovers.Done (toldBy transactions p)) entries transactions
+concludedBy Entries entries transactions p = refusedEmpty 6 (length entries) (length transactions)
+concludedBy Transactions entries transactions p = refusedEmpty 7 (length entries) (length transactions)
 
 unfoldable pub concludedOf : (entries transactions : List ℕ) → Progress → Recovering
-concludedOf entries transactions p = concludedAs (p .lists .full) entries transactions p
+concludedOf entries transactions p = concludedBy (p .lists .full) entries transactions p

@@ -6,12 +6,15 @@ use read::Progress;
 use refusal::Refusal;
 ghost use mathlib.Core.Path.{_≡_};
 ghost use lib.ListN.{length};
+ghost use Rattle.refusal.specs.Number.{numberOf};
+ghost use Rattle.refusal.specs.Answer.{sound};
+ghost use Rattle.records.specs.Dense as Dense;
+ghost use Rattle.lists.specs.Transactions.{transactionAt};
 ghost use Rattle.directory.specs.Record.{recordsOf};
-ghost use Rattle.directory.specs.Rule.{testOf};
-ghost use Rattle.directory.specs.declared.rule.Tested.the-variants.{Sound};
+ghost use Rattle.directory.specs.Rule.{testedAs, testOf};
 ghost use Rattle.recovery.specs.Log.{readLog};
-ghost use Rattle.recovery.specs.Recover.{nextOf, recovering, refusedEmpty, readInto, listsTestOf, recoverOf};
-ghost use Rattle.recovery.specs.Reach.{statsBy, recoveredBy, concludedOf};
+ghost use Rattle.recovery.specs.Recover.{nextOf, statsOf, recovering, refusedEmpty, readInto, listsTestOf, recoverOf};
+ghost use Rattle.recovery.specs.Reach.{toldBy, concludedOf};
 
 mod checkpoints;
 mod read;
@@ -66,9 +69,9 @@ fn stats(
     partial_writes: usize,
     checksum_failures: usize,
 ) -> RecoveryStats
-    ensures { λ r. ⌜ r ≡ statsBy (now (transactions .entry)) count «partial_writes» «checksum_failures» ⌝ }
+    ensures { λ r. ⌜ r ≡ statsOf (Dense.recordsOf 24 transactionAt count (now (transactions .entry))) «partial_writes» «checksum_failures» ⌝ }
 {
-    let tally = lists::tally::tally(transactions, count);
+    let tally = lists::tally::Tally::of(transactions, count);
     RecoveryStats {
         total_transactions: count,
         committed: tally.committed,
@@ -80,7 +83,7 @@ fn stats(
 }
 
 fn results(transactions: &[u8], progress: Progress) -> Recovered
-    ensures { λ r. ⌜ r ≡ recoveredBy (now (transactions .entry)) progress ⌝ }
+    ensures { λ r. ⌜ r ≡ toldBy (now (transactions .entry)) progress ⌝ }
 {
     let lists = progress.lists;
     Recovered {
@@ -97,7 +100,7 @@ fn results(transactions: &[u8], progress: Progress) -> Recovered
 
 // 6 and 7 leave both lists zero throughout.
 fn refused_empty(entries: &mut [u8], transactions: &mut [u8], refusal: Refusal) -> Recovery
-    ensures { λ r. ⌜ recovering r (now (entries .exit)) (now (transactions .exit)) ≡ refusedEmpty refusal (length (now (entries .entry))) (length (now (transactions .entry))) ⌝ }
+    ensures { λ r. ⌜ recovering r (now (entries .exit)) (now (transactions .exit)) ≡ refusedEmpty (numberOf refusal) (length (now (entries .entry))) (length (now (transactions .entry))) ⌝ }
 {
     fields::bytes::clear(entries);
     fields::bytes::clear(transactions);
@@ -124,7 +127,7 @@ fn recover_tested(
     entries: &mut [u8],
     transactions: &mut [u8],
 ) -> Recovery
-    requires { ⌜ testOf (length (now area)) (now directory) used ≡ Sound ⌝ }
+    requires { ⌜ testOf (length (now area)) (now directory) used ≡ sound ⌝ }
     ensures { λ r. ⌜ recovering r (now (entries .exit)) (now (transactions .exit)) ≡ readInto (readLog (now (area .entry)) (recordsOf used (now (directory .entry)))) (length (now (entries .entry))) (length (now (transactions .entry))) ⌝ }
 {
     fields::bytes::clear(entries);
@@ -141,7 +144,7 @@ fn lists_test(
     entries_len: usize,
     transactions_len: usize,
 ) -> Tested
-    ensures { λ r. ⌜ r ≡ listsTestOf «area_len» (now (directory .entry)) used «entries_len» «transactions_len» ⌝ }
+    ensures { λ r. ⌜ testedAs r ≡ listsTestOf «area_len» (now (directory .entry)) used «entries_len» «transactions_len» ⌝ }
 {
     if !Lent::EntryList.fits(entries_len) {
         return Tested::Refused(Refusal::InvalidBuffer);

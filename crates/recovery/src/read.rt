@@ -8,9 +8,11 @@ use scan::Step;
 ghost use mathlib.Core.Path.{_≡_};
 ghost use Prim.Native.Nat.{_+_, _<_, _≤_};
 ghost use lib.ListN.{length};
+ghost use Rattle.refusal.specs.Answer.{sound};
+ghost use Rattle.directory.specs.Lent.{mostOf};
+ghost use Rattle.directory.specs.declared.lent.Lent.the-variants.{Area, Directory};
 ghost use Rattle.directory.specs.Record.{recordsOf};
 ghost use Rattle.directory.specs.Rule.{testOf};
-ghost use Rattle.directory.specs.declared.rule.Tested.the-variants.{Sound};
 ghost use Rattle.entry.specs.Decode.{endOf};
 ghost use Rattle.lists.specs.Entries.{listed};
 ghost use Rattle.scan.specs.Read.{readSegment};
@@ -25,7 +27,7 @@ pub(crate) struct Progress {
 
 // A place of a segment counts from its first byte, a place of the entry list from the area's.
 fn listed(base: u64, entry: WalEntry, payload: Place) -> EntryRecord
-    requires { ⌜ base + endOf payload ≤ 1_073_741_824 ⌝ }
+    requires { ⌜ base + endOf payload ≤ mostOf Area ⌝ }
     ensures { λ r. ⌜ r ≡ listed base entry payload ⌝ }
 {
     EntryRecord {
@@ -38,7 +40,7 @@ fn listed(base: u64, entry: WalEntry, payload: Place) -> EntryRecord
 
 // What ended a segment: "a wrong checksum or undecodable payload is a checksum failure".
 fn ended(progress: Progress, lists: Lists, step: Step) -> Progress
-    requires { ⌜ (progress .«partial_writes» < 4_096) × (progress .«checksum_failures» < 4_096) ⌝ }
+    requires { ⌜ (progress .«partial_writes» < mostOf Directory) × (progress .«checksum_failures» < mostOf Directory) ⌝ }
     ensures { λ r. ⌜ r ≡ endedBy progress lists step ⌝ }
 {
     let mut at_end = progress;
@@ -61,7 +63,7 @@ fn read_segment_entries(
     transactions: &mut [u8],
     progress: Progress,
 ) -> Progress
-    requires { ⌜ (base + length (now segment) ≤ 1_073_741_824) × (progress .«partial_writes» < 4_096) × (progress .«checksum_failures» < 4_096) ⌝ }
+    requires { ⌜ (base + length (now segment) ≤ mostOf Area) × (progress .«partial_writes» < mostOf Directory) × (progress .«checksum_failures» < mostOf Directory) ⌝ }
     ensures { λ r. ⌜ reached (now (entries .exit)) (now (transactions .exit)) r ≡ reachSegment (reached (now (entries .entry)) (now (transactions .entry)) progress) base (readSegment (now (segment .entry))) ⌝ }
 {
     let mut lists = progress.lists;
@@ -84,7 +86,7 @@ pub(crate) fn read_log(
     entries: &mut [u8],
     transactions: &mut [u8],
 ) -> Progress
-    requires { ⌜ testOf (length (now area)) (now directory) used ≡ Sound ⌝ }
+    requires { ⌜ testOf (length (now area)) (now directory) used ≡ sound ⌝ }
     ensures { λ r. ⌜ reached (now (entries .exit)) (now (transactions .exit)) r ≡ reachLog (reached (now (entries .entry)) (now (transactions .entry)) unread) (now (area .entry)) (recordsOf used (now (directory .entry))) ⌝ }
 {
     let mut progress = Progress {

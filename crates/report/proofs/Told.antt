@@ -9,9 +9,8 @@ use lib.Seq.{sets}
 use Rattle.fields.proofs.Stores.{sets-all}
 use Rattle.directory.specs.Record.{recordBytes}
 use Rattle.directory.proofs.Records.{length-record}
-use Rattle.lists.specs.declared.admit.Full.the-variants.{Room}
 use Rattle.recovery.specs.Log.{readLog, whole}
-use Rattle.recovery.specs.Recover.{Recovering, recovering, recoveryAs, recoverAs, recoverOf}
+use Rattle.recovery.specs.Recover.{Recovering, recovering, recoveryAs, listing, recoverOf}
 use Rattle.recovery.specs.declared.Recovery.{Recovery}
 use Rattle.recovery.proofs.Enough.{report-enough}
 use Rattle.report.specs.Report.{reportOf}
@@ -22,5 +21,5 @@ told segment directory es ts r h d e =
     let E = replicate {A = ℕ} (32 * 1_985) 0 in
     let T = replicate {A = ℕ} (24 * 1_985) 0 in
     let only = d ∙ sets-all (replicate {A = ℕ} 24 0) (recordBytes (whole segment)) (length-record (whole segment)) in
-    let a : recovering r es ts ≡ recoverAs Room (readLog segment (whole segment ∷ [])) (length E) (length T) = e ∙ rw only (report-enough segment E T h (length-replicate {A = ℕ} (32 * 1_985) 0) (length-replicate {A = ℕ} (24 * 1_985) 0)) in
+    let a : recovering r es ts ≡ listing (readLog segment (whole segment ∷ [])) (length E) (length T) = e ∙ rw only (report-enough segment E T h (length-replicate {A = ℕ} (32 * 1_985) 0) (length-replicate {A = ℕ} (24 * 1_985) 0)) in
     rw (le-leb _ _ h) (ap (λ (x : Recovering). x .answer) a)

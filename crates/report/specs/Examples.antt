@@ -11,13 +11,14 @@ use Rattle.lists.specs.Entries.{highestIn}
 use Rattle.lists.specs.Tally.{tallyOf}
 use Rattle.lists.specs.Transactions.{noteAll, transactionsOf}
 use Rattle.recovery.specs.Log.{readLog}
-use Rattle.recovery.specs.Recover.{refused, recovered, nextOf, statsOf, recoveredOf}
+use Rattle.refusal.specs.Answer.{refused, accepted}
+use Rattle.recovery.specs.Recover.{nextOf, statsOf, recoveredOf}
 use Rattle.recovery.specs.declared.Next.the-variants.{Unchanged}
 use Rattle.report.specs.Report.{reportOf}
 
 -- "For empty input it prints exactly .. `total 0`, `committed 0`, `aborted 0`, `incomplete 0`, `partial 0`, `checksum 0`,
 -- `next unchanged`."
-empty : reportOf [] ≡ recovered (record { stats = record { «total_transactions» = 0; committed = 0; aborted = 0; incomplete = 0; «partial_writes» = 0; «checksum_failures» = 0 }; entries = 0; next = Unchanged })
+empty : reportOf [] ≡ accepted (record { stats = record { «total_transactions» = 0; committed = 0; aborted = 0; incomplete = 0; «partial_writes» = 0; «checksum_failures» = 0 }; entries = 0; next = Unchanged })
 unfolding reportOf recoveredOf statsOf nextOf readLog segmentBytes readSegment readFrom walkFrom walk transactionsOf noteAll tallyOf highestIn
 empty = refl
 

@@ -12,13 +12,16 @@ use contract.Lifetimes.{Lfts}
 use contract.Monad.{Fun, fact, factI, fact-use}
 use denote.Triple.Clauses.{Clauses, Ended, Lasts, atExit}
 use denote.Triple.Entry.{Args, Res}
+use Rattle.names.specs.Name.{Naming}
 use Rattle.segment.specs.Writing.{Log}
 use Rattle.recovery.specs.Recover.{Recovering}
 use Rattle.recovery.specs.Checkpoint.{Checkpointing}
 use Rattle.truncation.specs.Truncate.{Truncating}
+use Rattle.table.specs.Change.{Changed}
 use Rattle.store.specs.Replay.{Replaying}
-use Rattle.ringwal.proofs.Views.{named-once, opening-once, appended-once, appending-once, recovery-once, checkpointed-once, truncated-once}
+use Rattle.ringwal.proofs.Views.{named-once, tested-once, new-segment-once, planned-once, opening-once, appended-once, appending-once, recovery-once, checkpointed-once, truncated-once, set-once}
 use Rattle.refusal.proofs.Refusal.number as refusal-number
+use Rattle.fields.proofs.higher as higher
 use Rattle.fields.proofs.get_le as get-le
 use Rattle.fields.proofs.get_u64 as get-u64
 use Rattle.fields.proofs.put_le as put-le
@@ -73,12 +76,10 @@ use Rattle.lists.proofs.transactions.RecoveryAction.number as action-number
 use Rattle.lists.proofs.transactions.RecoveryAction.from_number as action-from-number
 use Rattle.lists.proofs.transactions.find as find-transaction
 use Rattle.lists.proofs.admit.admit as admit
-use Rattle.lists.proofs.tally.tally as tally
+use Rattle.lists.proofs.tally.Tally.of as tally
 use Rattle.lists.proofs.tally.highest_committed as highest-committed
-use Rattle.chains.proofs.links.entry_link as entry-link
-use Rattle.chains.proofs.links.transaction_link as transaction-link
-use Rattle.chains.proofs.links.put_entry_link as put-entry-link
-use Rattle.chains.proofs.links.put_transaction_link as put-transaction-link
+use Rattle.chains.proofs.links.spare as spare
+use Rattle.chains.proofs.links.put_spare as put-spare
 use Rattle.chains.proofs.chain.link as link
 use Rattle.chains.proofs.chain.unlink as unlink
 use Rattle.recovery.proofs.recover as recover
@@ -124,6 +125,9 @@ module _ {M : Type 1} (𝓤 : URA M) (H : Heap 𝓤) (A : Atoms 𝓤) (mem : Mem
   refusal-number-determined κs a g r r′ ws ws′ = answer refl
 
   -- ---- fields
+
+  pub higher-determined : Determined higher.ended (higher.clauses 𝓤 H A mem run)
+  higher-determined κs a g r r′ ws ws′ = answer refl
 
   pub get-le-determined : Determined get-le.ended (get-le.clauses 𝓤 H A mem run)
   get-le-determined κs a g r r′ ws ws′ = answer refl
@@ -188,7 +192,7 @@ module _ {M : Type 1} (𝓤 : URA M) (H : Heap 𝓤) (A : Atoms 𝓤) (mem : Mem
   well-formed-determined κs a g r r′ ws ws′ = answer refl
 
   pub encode-determined : Determined encode.ended (encode.clauses 𝓤 H A mem run)
-  encode-determined κs a g r r′ ws ws′ = told 𝓤 (λ e f. (e .answer ∙ sym (f .answer), λ i. (tt, (tt, (tt, (tt, (tt, (tt, ((e .target ∙ sym (f .target)) i, tt)))))))))
+  encode-determined κs a g r r′ ws ws′ = told 𝓤 (λ e f. let p = e ∙ sym f in (λ i. p i .answer, λ i. (tt, (tt, (tt, (tt, (tt, (tt, (p i .target, tt)))))))))
 
   -- ---- entry
 
@@ -213,7 +217,7 @@ module _ {M : Type 1} (𝓤 : URA M) (H : Heap 𝓤) (A : Atoms 𝓤) (mem : Mem
   -- ---- names
 
   pub segment-name-determined : Determined segment-name.ended (segment-name.clauses 𝓤 H A mem run)
-  segment-name-determined κs a g r r′ ws ws′ = told 𝓤 (λ e f. (named-once (e .answer ∙ sym (f .answer)), λ i. (tt, ((e .target ∙ sym (f .target)) i, tt))))
+  segment-name-determined κs a g r r′ ws ws′ = told 𝓤 (λ e f. let p = e ∙ sym f in (named-once (ap (λ (l : Naming). l .answer) p), λ i. (tt, (p i .target, tt))))
 
   pub parse-segment-name-determined : Determined parse-segment-name.ended (parse-segment-name.clauses 𝓤 H A mem run)
   parse-segment-name-determined κs a g r r′ ws ws′ = answer refl
@@ -236,18 +240,18 @@ module _ {M : Type 1} (𝓤 : URA M) (H : Heap 𝓤) (A : Atoms 𝓤) (mem : Mem
   put-record-determined κs a g r r′ ws ws′ = buffer refl
 
   pub test-determined : Determined test.ended (test.clauses 𝓤 H A mem run)
-  test-determined κs a g r r′ ws ws′ = answer refl
+  test-determined κs a g r r′ ws ws′ = told 𝓤 (λ e f. (tested-once (e ∙ sym f), refl))
 
   -- ---- plan
 
   pub new-segment-determined : Determined new-segment.ended (new-segment.clauses 𝓤 H A mem run)
-  new-segment-determined κs a g r r′ ws ws′ = answer refl
+  new-segment-determined κs a g r r′ ws ws′ = told 𝓤 (λ e f. (new-segment-once (e ∙ sym f), refl))
 
   pub append-test-determined : Determined append-test.ended (append-test.clauses 𝓤 H A mem run)
-  append-test-determined κs a g r r′ ws ws′ = answer refl
+  append-test-determined κs a g r r′ ws ws′ = told 𝓤 (λ e f. (tested-once (e ∙ sym f), refl))
 
   pub plan-append-determined : Determined plan-append.ended (plan-append.clauses 𝓤 H A mem run)
-  plan-append-determined κs a g r r′ ws ws′ = answer refl
+  plan-append-determined κs a g r r′ ws ws′ = told 𝓤 (λ e f. (planned-once (e ∙ sym f), refl))
 
   -- ---- segment
 
@@ -319,17 +323,11 @@ module _ {M : Type 1} (𝓤 : URA M) (H : Heap 𝓤) (A : Atoms 𝓤) (mem : Mem
 
   -- ---- chains
 
-  pub entry-link-determined : Determined entry-link.ended (entry-link.clauses 𝓤 H A mem run)
-  entry-link-determined κs a g r r′ ws ws′ = answer refl
+  pub spare-determined : Determined spare.ended (spare.clauses 𝓤 H A mem run)
+  spare-determined κs a g r r′ ws ws′ = answer refl
 
-  pub transaction-link-determined : Determined transaction-link.ended (transaction-link.clauses 𝓤 H A mem run)
-  transaction-link-determined κs a g r r′ ws ws′ = answer refl
-
-  pub put-entry-link-determined : Determined put-entry-link.ended (put-entry-link.clauses 𝓤 H A mem run)
-  put-entry-link-determined κs a g r r′ ws ws′ = buffer refl
-
-  pub put-transaction-link-determined : Determined put-transaction-link.ended (put-transaction-link.clauses 𝓤 H A mem run)
-  put-transaction-link-determined κs a g r r′ ws ws′ = buffer refl
+  pub put-spare-determined : Determined put-spare.ended (put-spare.clauses 𝓤 H A mem run)
+  put-spare-determined κs a g r r′ ws ws′ = buffer refl
 
   pub link-determined : Determined link.ended (link.clauses 𝓤 H A mem run)
   link-determined κs a g r r′ ws ws′ = told 𝓤 (λ e f. let p = e ∙ sym f in (refl, λ i. (p i .entries, (tt, (p i .transactions, (tt, tt))))))
@@ -362,10 +360,10 @@ module _ {M : Type 1} (𝓤 : URA M) (H : Heap 𝓤) (A : Atoms 𝓤) (mem : Mem
   find-key-determined κs a g r r′ ws ws′ = answer refl
 
   pub set-determined : Determined set.ended (set.clauses 𝓤 H A mem run)
-  set-determined κs a g r r′ ws ws′ = told 𝓤 (λ e f. let p = e ∙ sym f in (λ i. p i .answer, λ i. (p i .table, (tt, (tt, (tt, tt))))))
+  set-determined κs a g r r′ ws ws′ = told 𝓤 (λ e f. let p = e ∙ sym f in (set-once (ap (λ (c : Changed). c .answer) p), λ i. (p i .table, (tt, (tt, (tt, tt))))))
 
   pub remove-determined : Determined remove.ended (remove.clauses 𝓤 H A mem run)
-  remove-determined κs a g r r′ ws ws′ = told 𝓤 (λ e f. let p = e ∙ sym f in (λ i. p i .answer, λ i. (p i .table, (tt, (tt, tt)))))
+  remove-determined κs a g r r′ ws ws′ = told 𝓤 (λ e f. let p = e ∙ sym f in (set-once (ap (λ (c : Changed). c .answer) p), λ i. (p i .table, (tt, (tt, tt)))))
 
   -- ---- store
 

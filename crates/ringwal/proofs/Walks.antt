@@ -95,6 +95,6 @@ module _ (s : List ℕ) (at count : ℕ) (c : Counting s at count) where
   ended WrongChecksum q n = let l = rw (read-wrong s at q) at (c .whole) in omega (arith, l)
   ended (Undecodable p) q n = let l = rw (read-undecodable s at p q) at (c .whole) in omega (arith, l)
 
-  -- "damage of any kind" ends the reading, and so does the end
+  -- damage of any kind ends the reading, and so does the end
   pub counting-ends : isEntry (stepAt s at) ≡ false → count ≡ length (readSegment s .good)
   counting-ends n = ended (stepAt s at) refl n

@@ -11,7 +11,7 @@ use Rattle.utf8.specs.Grammar.{isUtf8, completes, any, after, utf8-char, utf8-1
 use Rattle.header.specs.Header.{headerOf, headerBytes, entryBytes, headerAt, validFor}
 use Rattle.payload.specs.Kind.{byKind}
 use Rattle.payload.specs.Content.{Content, insert, commit, abort, fixedBytes, partBytes, payloadOf}
-use Rattle.entry.specs.Decode.{partAt, keyAt, insertAt, decodeOf}
+use Rattle.entry.specs.Decode.{partAt, keyAt, keyAndPart, decodeOf}
 use Rattle.records.specs.Sorted.{compareNumbers, put}
 use Rattle.records.specs.Dense.{dense, bytesOf}
 use Rattle.directory.specs.Image.{segmentBytes}
@@ -21,11 +21,13 @@ use Rattle.directory.specs.Rule.{liesOf, followsOf, ruleFrom, directoryRule, te
 use Rattle.scan.specs.Step.{judgeOf, stepFrom}
 use Rattle.scan.specs.Walk.{walk, walkFrom}
 use Rattle.scan.specs.Read.{readFrom, readSegment}
+use Rattle.refusal.specs.Answer.{Answer, byAnswer}
+use Rattle.recovery.specs.declared.Recovered.{Recovered}
 use Rattle.lists.specs.Entries.{highestIn}
-use Rattle.lists.specs.Tally.{tallyOf, fullOf}
+use Rattle.lists.specs.Tally.{tallyOf}
 use Rattle.lists.specs.Transactions.{noted, begun, note, noteAll, transactionsOf, transactionBytes}
 use Rattle.recovery.specs.Log.{readLog}
-use Rattle.recovery.specs.Recover.{Answer, Recovering, refused, recovered, nextOf, statsOf, recoveredOf, readInto, listsTestOf, recoverOf}
+use Rattle.recovery.specs.Recover.{Recovering, nextOf, statsOf, recoveredOf, readInto, listsTestOf, recoverOf}
 
 -- what is asked of the calls' own definitions
 pub data Question : Type 0 where
@@ -45,10 +47,10 @@ recovering segment =
     recoverOf segment (recordBytes (record { id = 1; start = 0; length = length segment })) 1 (replicate 64 0) (replicate 24 0)
 
 -- a refusal by its number alone
-abbrev pub countsOf : Answer → List ℕ
-countsOf (refused number) = number ∷ []
-countsOf (recovered values) =
-    values .stats .«total_transactions» ∷ values .stats .committed ∷ values .stats .aborted ∷ values .stats .incomplete ∷ values .stats .«partial_writes» ∷ values .stats .«checksum_failures» ∷ []
+abbrev pub countsOf : Answer Recovered → List ℕ
+countsOf answer =
+    byAnswer answer (λ number. number ∷ [])
+    (λ values. values .stats .«total_transactions» ∷ values .stats .committed ∷ values .stats .aborted ∷ values .stats .incomplete ∷ values .stats .«partial_writes» ∷ values .stats .«checksum_failures» ∷ [])
 
 abbrev pub answerTo : Question → List ℕ
 answerTo (checksum bytes) = crc32Of bytes ∷ []
@@ -102,5 +104,5 @@ benchReadings =
 
 -- every reading is what the definitions compute
 pub readings : map (λ (r : Reading). answerTo (r .question)) benchReadings ≡ map (λ (r : Reading). r .answer) benchReadings
-unfolding benchReadings insertThenCommit commitThenAbort endless recovering recoverOf listsTestOf testOf fitsOf directoryRule ruleFrom followsOf liesOf recordsOf recordAt recordBytes readLog segmentBytes readInto fullOf transactionsOf noteAll note put compareNumbers noted begun transactionBytes dense bytesOf recoveredOf statsOf tallyOf highestIn nextOf entryBytes payloadOf fixedBytes partBytes headerBytes headerOf leBytes readSegment readFrom walkFrom walk stepFrom judgeOf headerAt validFor leOf crc32Of register byteStep bitSteps bitStep decodeOf byKind insertAt keyAt partAt isUtf8 completes any after Utf8.begun utf8-char utf8-1 utf8-2 utf8-3 utf8-4 tail
+unfolding benchReadings insertThenCommit commitThenAbort endless recovering recoverOf listsTestOf testOf fitsOf directoryRule ruleFrom followsOf liesOf recordsOf recordAt recordBytes readLog segmentBytes readInto transactionsOf noteAll note put compareNumbers noted begun transactionBytes dense bytesOf recoveredOf statsOf tallyOf highestIn nextOf entryBytes payloadOf fixedBytes partBytes headerBytes headerOf leBytes readSegment readFrom walkFrom walk stepFrom judgeOf headerAt validFor leOf crc32Of register byteStep bitSteps bitStep decodeOf byKind keyAndPart keyAt partAt isUtf8 completes any after Utf8.begun utf8-char utf8-1 utf8-2 utf8-3 utf8-4 tail
 readings = refl

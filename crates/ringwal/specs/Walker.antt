@@ -10,7 +10,7 @@ use Rattle.scan.specs.declared.Step.the-variants.{Entry, End, Torn, WrongChecks
 use Rattle.ringwal.specs.declared.walker.SegmentWalker.{SegmentWalker}
 use Rattle.ringwal.specs.declared.walker.Walked.{Walked}
 
--- where the next step is: behind an entry. The end leaves the offset, and so does "damage of any kind".
+-- where the next step is: behind an entry. The end leaves the offset, and so does damage of any kind.
 abbrev pub offsetAfter : Step → (at : ℕ) → ℕ
 offsetAfter (Entry entry p) at = endOf p
 offsetAfter End at = at

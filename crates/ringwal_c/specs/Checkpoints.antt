@@ -3,16 +3,17 @@
 use mathlib.Core.Path.{_≡_}
 use mathlib.Core.List.{List}
 use Prim.Native.Nat.{ℕ}
-use Rattle.recovery.specs.Checkpoint as Checkpoint
-use Rattle.truncation.specs.Truncate as Truncate
+use Rattle.refusal.specs.Answer.{Answer}
+use Rattle.recovery.specs.Checkpoint.{Checkpointing}
+use Rattle.truncation.specs.Truncate.{Freed, Truncating}
+use Rattle.ringwal_c.specs.Answers.{refusalIn, valueIn}
 use Rattle.ringwal_c.specs.declared.checkpoints.CheckpointAnswer.{CheckpointAnswer}
 use Rattle.ringwal_c.specs.declared.checkpoints.TruncateAnswer.{TruncateAnswer}
 
 -- ---- checkpoint
 
-abbrev pub checkpointAnswer : Checkpoint.Answer → CheckpointAnswer
-checkpointAnswer (Checkpoint.refused number) = record { refusal = number; number = 0 }
-checkpointAnswer (Checkpoint.checkpoint number) = record { refusal = 0; number = number }
+abbrev pub checkpointAnswer : Answer ℕ → CheckpointAnswer
+checkpointAnswer answer = record { refusal = refusalIn answer; number = valueIn answer (λ number. number) 0 }
 
 pub record Checkpointed : Type 0 where
   pub answer : CheckpointAnswer
@@ -24,19 +25,17 @@ abbrev pub checkpointed : CheckpointAnswer → (entries transactions target : Li
 checkpointed answer entries transactions target =
     record { answer = answer; entries = entries; transactions = transactions; target = target }
 
-abbrev pub checkpointFor : Checkpoint.Checkpointing → Checkpointed
+abbrev pub checkpointFor : Checkpointing → Checkpointed
 checkpointFor r = checkpointed (checkpointAnswer (r .answer)) (r .entries) (r .transactions) (r .target)
 
 -- ---- truncation
 
-abbrev pub truncateAnswer : Truncate.Answer → TruncateAnswer
-truncateAnswer (Truncate.refused number) = record { refusal = number; count = 0 }
-truncateAnswer (Truncate.dropped count used) = record { refusal = 0; count = count }
+abbrev pub truncateAnswer : Answer Freed → TruncateAnswer
+truncateAnswer answer = record { refusal = refusalIn answer; count = valueIn answer (λ (f : Freed). f .count) 0 }
 
 -- a refusal leaves the used count alone
-abbrev pub usedAfter : Truncate.Answer → (before : ℕ) → ℕ
-usedAfter (Truncate.refused number) before = before
-usedAfter (Truncate.dropped count used) before = used
+abbrev pub usedAfter : Answer Freed → (before : ℕ) → ℕ
+usedAfter answer before = valueIn answer (λ (f : Freed). f .used) before
 
 pub record Truncated : Type 0 where
   pub answer : TruncateAnswer
@@ -46,10 +45,10 @@ pub record Truncated : Type 0 where
 abbrev pub truncated : TruncateAnswer → (used : ℕ) → (directory : List ℕ) → Truncated
 truncated answer used directory = record { answer = answer; used = used; directory = directory }
 
-abbrev pub truncateFor : Truncate.Truncating → (used : ℕ) → Truncated
+abbrev pub truncateFor : Truncating → (used : ℕ) → Truncated
 truncateFor r used = truncated (truncateAnswer (r .answer)) (usedAfter (r .answer) used) (r .directory)
 
 -- of the function inside: what was given back, for a host
-pub record TruncatesAs (below : Truncate.Answer) (before : ℕ) (r : TruncateAnswer) (after : ℕ) : Type 0 where
+pub record TruncatesAs (below : Answer Freed) (before : ℕ) (r : TruncateAnswer) (after : ℕ) : Type 0 where
   pub answer : r ≡ truncateAnswer below
   pub used : after ≡ usedAfter below before

@@ -12,10 +12,10 @@ use Rattle.directory.specs.Record.{recordAt, recordBytes, recordsOf}
 use Rattle.directory.specs.Rule.{liesOf, followsOf, ruleFrom, directoryRule, testOf}
 use Rattle.names.specs.declared.Parsed.the-variants.{NoName, Id}
 use Rattle.payload.specs.Content.{commit, fixedBytes, payloadOf, wellFormed}
-use Rattle.recovery.specs.Recover.{refused}
+use Rattle.refusal.specs.Answer.{refused}
 use Rattle.recovery.specs.declared.Next.the-variants.{Exhausted}
-use Rattle.plan.specs.Plan.{behindOf, planOf, appendTestOf}
-use Rattle.segment.specs.Writing.{counted, fresh, writtenOf, contentOf, appendOf}
+use Rattle.plan.specs.Plan.{behindOf, planOf, planAppendOf, appendTestOf}
+use Rattle.segment.specs.Writing.{counted, fresh, appendEntryOf, appendOf}
 use Rattle.ringwal_c.specs.Naming.{parseAnswer}
 use Rattle.ringwal_c.specs.Recovering.{nextState, recoverAnswer}
 use Rattle.ringwal_c.specs.Writing.{writerOf, appended, appendFor, written, inPlace}
@@ -26,12 +26,12 @@ one = recordBytes (record { id = 1; start = 0; length = 0 })
 
 -- a commit, number 7, time 1, takes 33 bytes; one byte fewer has no room for it, and nothing changes, the used count neither
 no-room : appendFor (appendOf (fresh 100) (replicate 32 0) one 1 5 7 1 (some commit)) 1 ≡ appended (record { refusal = 5; len = 0; writer = writerOf (fresh 100) }) 1 one (replicate 32 0)
-unfolding appendOf contentOf wellFormed writtenOf planOf behindOf appendTestOf testOf fitsOf directoryRule ruleFrom followsOf liesOf recordsOf recordAt recordBytes leOf leBytes payloadOf fixedBytes
+unfolding appendOf appendEntryOf wellFormed planAppendOf planOf behindOf appendTestOf testOf fitsOf directoryRule ruleFrom followsOf liesOf recordsOf recordAt recordBytes leOf leBytes payloadOf fixedBytes
 no-room = refl
 
 -- with room: the answer, and in place the same state behind the pointer
 room : appendFor (appendOf (fresh 100) (replicate 40 0) one 1 5 7 1 (some commit)) 1 .answer ≡ record { refusal = 0; len = 33; writer = writerOf (counted (fresh 100) 5) }
-unfolding appendOf contentOf wellFormed writtenOf planOf behindOf appendTestOf testOf fitsOf directoryRule ruleFrom followsOf liesOf recordsOf recordAt recordBytes leOf leBytes payloadOf fixedBytes
+unfolding appendOf appendEntryOf wellFormed planAppendOf planOf behindOf appendTestOf testOf fitsOf directoryRule ruleFrom followsOf liesOf recordsOf recordAt recordBytes leOf leBytes payloadOf fixedBytes
 room = refl
 
 in-place : inPlace (appended (record { refusal = 0; len = 33; writer = writerOf (fresh 100) }) 2 one one) ≡ written (record { refusal = 0; len = 33 }) (writerOf (fresh 100)) 2 one one

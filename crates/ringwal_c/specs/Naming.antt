@@ -3,15 +3,16 @@
 use mathlib.Core.Bool.{cond}
 use mathlib.Core.List.{List}
 use Prim.Native.Nat.{ℕ}
-use Rattle.names.specs.Name.{Answer, refused, written, namedOf, targetOf}
+use Rattle.refusal.specs.Answer.{Answer}
+use Rattle.names.specs.Name.{Naming, nameInto}
 use Rattle.names.specs.declared.Parsed.{Parsed}
 use Rattle.names.specs.declared.Parsed.the-variants.{NoName, Id}
+use Rattle.ringwal_c.specs.Answers.{refusalIn, valueIn}
 use Rattle.ringwal_c.specs.declared.naming.NameAnswer.{NameAnswer}
 use Rattle.ringwal_c.specs.declared.naming.ParseAnswer.{ParseAnswer}
 
-abbrev pub nameAnswer : Answer → NameAnswer
-nameAnswer (refused number) = record { refusal = number; len = 0 }
-nameAnswer (written len) = record { refusal = 0; len = len }
+abbrev pub nameAnswer : Answer ℕ → NameAnswer
+nameAnswer answer = record { refusal = refusalIn answer; len = valueIn answer (λ len. len) 0 }
 
 -- what a host has after writing a name
 pub record Named : Type 0 where
@@ -22,8 +23,11 @@ abbrev pub named : NameAnswer → (target : List ℕ) → Named
 named answer target = record { answer = answer; target = target }
 
 -- what the call below answers and leaves, for a host
+abbrev pub forHost : Naming → Named
+forHost n = named (nameAnswer (n .answer)) (n .target)
+
 abbrev pub nameFor : (id : ℕ) → (target : List ℕ) → Named
-nameFor id target = named (nameAnswer (namedOf id target)) (targetOf id target)
+nameFor id target = forHost (nameInto id target)
 
 -- "Reading answers "no name", or the id and whether writing it gives the same name back"
 abbrev pub parseAnswer : Parsed → ParseAnswer

@@ -2,7 +2,9 @@
 -- Assumes nothing.
 use mathlib.Core.List.{List}
 use Prim.Native.Nat.{ℕ}
-use Rattle.recovery.specs.Recover as Recover
+use Rattle.refusal.specs.Answer.{Answer, byAnswer}
+use Rattle.recovery.specs.Recover.{Recovering}
+use Rattle.recovery.specs.declared.Recovered as Below
 use Rattle.recovery.specs.declared.Next.{Next}
 use Rattle.recovery.specs.declared.Next.the-variants.{Unchanged, Number, Exhausted}
 use Rattle.store.specs.Replay.{Replaying}
@@ -35,9 +37,8 @@ refusedAnswer number =
       «next_number» = 0;
     }
 
-abbrev pub recoverAnswer : Recover.Answer → RecoverAnswer
-recoverAnswer (Recover.refused number) = refusedAnswer number
-recoverAnswer (Recover.recovered values) =
+abbrev pub acceptedAnswer : Below.Recovered → RecoverAnswer
+acceptedAnswer values =
     record {
       refusal = 0;
       «total_transactions» = values .stats .«total_transactions»;
@@ -51,6 +52,9 @@ recoverAnswer (Recover.recovered values) =
       «next_number» = nextNumber (values .next);
     }
 
+abbrev pub recoverAnswer : Answer Below.Recovered → RecoverAnswer
+recoverAnswer answer = byAnswer answer refusedAnswer acceptedAnswer
+
 -- what a host has afterwards
 pub record Recovered : Type 0 where
   pub answer : RecoverAnswer
@@ -61,7 +65,7 @@ abbrev pub recovered : RecoverAnswer → (entries transactions : List ℕ) → R
 recovered answer entries transactions = record { answer = answer; entries = entries; transactions = transactions }
 
 -- what the call below answers and leaves, for a host
-abbrev pub recoverFor : Recover.Recovering → Recovered
+abbrev pub recoverFor : Recovering → Recovered
 recoverFor r = recovered (recoverAnswer (r .answer)) (r .entries) (r .transactions)
 
 pub record Replayed : Type 0 where

@@ -3,12 +3,13 @@
 use mathlib.Core.Path.{_≡_}
 use mathlib.Core.List.{List}
 use Prim.Native.Nat.{ℕ}
-use Rattle.segment.specs.Answer.{Answer, refused, counts, openedAs, appendedAs}
-use Rattle.segment.specs.Answer as Answers
+use Rattle.refusal.specs.Answer.{Answer}
+use Rattle.segment.specs.Answer.{Added, openedAs, appendedAs}
 use Rattle.segment.specs.Writing.{OpenedLog, Log}
 use Rattle.segment.specs.declared.SegmentManager.{SegmentManager}
 use Rattle.segment.specs.declared.Opening.{Opening}
 use Rattle.segment.specs.declared.Appending.{Appending}
+use Rattle.ringwal_c.specs.Answers.{refusalIn, valueIn}
 use Rattle.ringwal_c.specs.declared.in_place.WriteAnswer.{WriteAnswer}
 use Rattle.ringwal_c.specs.declared.writing.Writer.{Writer}
 use Rattle.ringwal_c.specs.declared.writing.OpenAnswer.{OpenAnswer}
@@ -32,23 +33,6 @@ managerOf w =
       «last_lsn» = w .«last_lsn»;
     }
 
-abbrev pub refusalIn : Answer → ℕ
-refusalIn (refused number) = number
-refusalIn (counts used) = 0
-refusalIn (Answers.written used len) = 0
-
--- the bytes written; a refused call wrote none
-abbrev pub lengthIn : Answer → ℕ
-lengthIn (refused number) = 0
-lengthIn (counts used) = 0
-lengthIn (Answers.written used len) = len
-
--- the used count goes in and out; a refusal leaves it alone
-abbrev pub usedAfter : Answer → (before : ℕ) → ℕ
-usedAfter (refused number) before = before
-usedAfter (counts used) before = used
-usedAfter (Answers.written used len) before = used
-
 -- ---- opening and rotating
 
 -- what a host has afterwards
@@ -60,15 +44,19 @@ pub record Opened : Type 0 where
 abbrev pub opened : OpenAnswer → (used : ℕ) → List ℕ → Opened
 opened answer used directory = record { answer = answer; used = used; directory = directory }
 
-abbrev pub openAnswer : Answer → SegmentManager → OpenAnswer
+abbrev pub openAnswer : Answer ℕ → SegmentManager → OpenAnswer
 openAnswer answer m = record { refusal = refusalIn answer; writer = writerOf m }
+
+-- the used count goes in and out; a refusal leaves it alone
+abbrev pub usedOpened : Answer ℕ → (before : ℕ) → ℕ
+usedOpened answer before = valueIn answer (λ used. used) before
 
 -- what the call below answers and leaves, for a host
 abbrev pub openFor : OpenedLog → (used : ℕ) → Opened
 openFor log used =
     record {
       answer = openAnswer (log .answer) (log .manager);
-      used = usedAfter (log .answer) used;
+      used = usedOpened (log .answer) used;
       directory = log .directory;
     }
 
@@ -83,14 +71,19 @@ pub record Appended : Type 0 where
 abbrev pub appended : AppendAnswer → (used : ℕ) → (directory area : List ℕ) → Appended
 appended answer used directory area = record { answer = answer; used = used; directory = directory; area = area }
 
-abbrev pub appendAnswer : Answer → SegmentManager → AppendAnswer
-appendAnswer answer m = record { refusal = refusalIn answer; len = lengthIn answer; writer = writerOf m }
+-- the bytes written; a refused call wrote none
+abbrev pub appendAnswer : Answer Added → SegmentManager → AppendAnswer
+appendAnswer answer m =
+    record { refusal = refusalIn answer; len = valueIn answer (λ (a : Added). a .len) 0; writer = writerOf m }
+
+abbrev pub usedAppended : Answer Added → (before : ℕ) → ℕ
+usedAppended answer before = valueIn answer (λ (a : Added). a .used) before
 
 abbrev pub appendFor : Log → (used : ℕ) → Appended
 appendFor log used =
     record {
       answer = appendAnswer (log .answer) (log .manager);
-      used = usedAfter (log .answer) used;
+      used = usedAppended (log .answer) used;
       directory = log .directory;
       area = log .area;
     }
@@ -123,8 +116,8 @@ inPlace r =
 
 pub record OpensAs (opening : Opening) (before : ℕ) (r : OpenAnswer) (after : ℕ) : Type 0 where
   pub answer : r ≡ openAnswer (openedAs (opening .answer)) (opening .manager)
-  pub used : after ≡ usedAfter (openedAs (opening .answer)) before
+  pub used : after ≡ usedOpened (openedAs (opening .answer)) before
 
 pub record AppendsAs (appending : Appending) (before : ℕ) (r : AppendAnswer) (after : ℕ) : Type 0 where
   pub answer : r ≡ appendAnswer (appendedAs (appending .answer)) (appending .manager)
-  pub used : after ≡ usedAfter (appendedAs (appending .answer)) before
+  pub used : after ≡ usedAppended (appendedAs (appending .answer)) before

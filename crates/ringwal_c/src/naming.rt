@@ -3,7 +3,7 @@ use names::Named;
 use names::Parsed;
 ghost use mathlib.Core.Path.{_≡_};
 ghost use mathlib.Core.Bool.{cond};
-ghost use Rattle.names.specs.Name.{answerOf, readOf};
+ghost use Rattle.names.specs.Name.{namedAs, readOf};
 ghost use Rattle.ringwal_c.specs.Naming.{nameAnswer, named, nameFor, parseAnswer};
 
 #[repr(C)]
@@ -22,7 +22,7 @@ pub struct ParseAnswer {
 }
 
 fn name_answer(named: Named) -> NameAnswer
-    ensures { λ r. ⌜ r ≡ nameAnswer (answerOf named) ⌝ }
+    ensures { λ r. ⌜ r ≡ nameAnswer (namedAs named) ⌝ }
 {
     match named {
         Named::Refused(refusal) => NameAnswer {

@@ -7,7 +7,7 @@ use segment::SegmentManager;
 ghost use mathlib.Core.Path.{_≡_};
 ghost use lib.ListN.{length};
 ghost use Rattle.payload.specs.Encode.{asked};
-ghost use Rattle.segment.specs.Writing.{fresh, openOf, rotateOf, appendEntryOf, appendOf};
+ghost use Rattle.segment.specs.Writing.{fresh, defaultBound, openOf, rotateOf, appendEntryOf, appendOf};
 ghost use Rattle.ringwal_c.specs.Writing.{writerOf, managerOf, OpensAs, AppendsAs, opened, openFor, appended, appendFor};
 
 #[repr(C)]
@@ -103,7 +103,7 @@ pub extern "C" fn ringwal_new(max_segment_size: u64) -> Writer
 
 #[no_mangle]
 pub extern "C" fn ringwal_with_default_size() -> Writer
-    ensures { λ r. ⌜ r ≡ writerOf (fresh 49_152) ⌝ }
+    ensures { λ r. ⌜ r ≡ writerOf (fresh defaultBound) ⌝ }
 {
     writer_of(SegmentManager::with_default_size())
 }

@@ -7,6 +7,7 @@ use native.Mathlib.Omega.{arith}
 use lib.ListN.{length, drop}
 use Rattle.fields.specs.Le.{Bytes}
 use Rattle.fields.proofs.Numbers.{bytes-drop, bytes-take}
+use Rattle.records.specs.Dense.{All}
 use Rattle.entry.specs.Decode.{bytesAt, endOf, decodeOf}
 use Rattle.entry.specs.Parts.{txOf}
 use Rattle.entry.specs.declared.decoding.Decoded.the-variants as Decodes
@@ -52,10 +53,6 @@ unfolding readSegment
 read-count s = omega (arith, read-count-from s 0)
 
 -- each of them by itself
-abbrev pub Each : (Good → Type 0) → List Good → Type 0
-Each P [] = Unit {0}
-Each P (g ∷ gs) = P g × Each P gs
-
 pub record GoodIn (s : List ℕ) (g : Good) : Type 0 where
   pub end : endOf (g .payload) ≤ length s
   pub least : 20 ≤ g .payload .len
@@ -63,7 +60,7 @@ pub record GoodIn (s : List ℕ) (g : Good) : Type 0 where
   pub decoded : decodeOf (bytesAt s (g .payload)) ≡ Decodes.Entry (g .entry) used
   pub tx : Bytes s → txOf (g .entry) < 2 ^ 64
 
-pub run-each : (s : List ℕ) (at : ℕ) (gs : List Good) → Run s at gs → Each (GoodIn s) gs
+pub run-each : (s : List ℕ) (at : ℕ) (gs : List Good) → Run s at gs → All (GoodIn s) gs
 run-each s at [] r = tt
 run-each s at (g ∷ gs) r =
     let e = r .0 in
@@ -78,5 +75,5 @@ run-each s at (g ∷ gs) r =
       run-each s (endOf p) gs (r .1),
     )
 
-pub read-each : (s : List ℕ) (at : ℕ) → Each (GoodIn s) (readFrom s at .good)
+pub read-each : (s : List ℕ) (at : ℕ) → All (GoodIn s) (readFrom s at .good)
 read-each s at = run-each s at (readFrom s at .good) (read-run s at)

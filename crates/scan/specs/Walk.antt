@@ -9,7 +9,7 @@ use Rattle.scan.specs.Step.{stepFrom}
 use Rattle.scan.specs.declared.Step.{Step}
 use Rattle.scan.specs.declared.Step.the-variants.{Entry, End, Torn, WrongChecksum, Undecodable}
 
--- where there is a payload, what is read behind it
+-- behind a payload whose checksum is right, what is read there
 abbrev pub behind : {A : Type 0} → Step → A → (Place → A) → A
 behind (Entry entry p) ends go = go p
 behind (Undecodable p) ends go = go p

@@ -17,7 +17,8 @@ pub enum Judged {
     Good(WalEntry),
 }
 
-// What stands at an offset of a segment. A payload's place is in the segment; the next step is at its end.
+// What stands at an offset of a segment. A payload's place is in the segment. Behind an entry the next step is at its end;
+// the truncation scan goes on behind an undecodable payload too.
 pub enum Step {
     Entry { entry: WalEntry, payload: Place },
     End,

@@ -14,35 +14,30 @@ use lib.ListN.{length, take, drop, length-append, length-drop}
 use lib.Seq.{sets, sets-eq, length-sets, length-take-le, take-at, take-append-seam}
 use Rattle.fields.proofs.Cases.{caseB}
 use Rattle.fields.proofs.Stores.{sets-join, sets-front, take-sets, drop-sets}
-use Rattle.refusal.specs.declared.Refusal.{Refusal}
-use Rattle.refusal.specs.declared.Refusal.the-variants.{InvalidEntry}
+use Rattle.refusal.specs.Answer.{Answer, refused, accepted, byAnswer, andThen, sound}
+use Rattle.refusal.proofs.Answers.{never-both, then-says, by-cases}
 use Rattle.header.specs.Header.{headerOf, headerBytes, entryBytes}
 use Rattle.header.proofs.Laws.{header-length}
 use Rattle.payload.specs.Content.{Content, payloadOf, wellFormed}
-use Rattle.payload.specs.Encode.{isWellFormed, putAnswer, putTarget, EncodeIs}
+use Rattle.payload.specs.Encode.{Encoding, isWellFormed, encoding, putOf, encodeOf}
 use Rattle.payload.specs.declared.Encoded.{Encoded}
 use Rattle.payload.specs.declared.Encoded.the-variants as Encodes
 use Rattle.payload.proofs.Encoded.{the-type}
 use Rattle.payload.proofs.Laws.{payload-most}
 use Rattle.directory.specs.Record.{recordsOf, endOf}
-use Rattle.directory.specs.Rule.{testOf, endBefore, ruleFrom, lastOf, newSegment, afterRecord}
+use Rattle.directory.specs.Rule.{testOf, endBefore, ruleFrom, afterRecord}
 use Rattle.directory.specs.declared.record.SegmentRecord.{SegmentRecord}
 use Rattle.directory.specs.declared.rule.Last.{Last}
 use Rattle.directory.specs.declared.rule.Last.the-variants.{NoSegment}
-use Rattle.directory.specs.declared.rule.Tested.{Tested}
-use Rattle.directory.specs.declared.rule.Tested.the-variants.{Sound}
-use Rattle.directory.specs.declared.rule.Tested.the-variants as Test
-use Rattle.directory.proofs.Rules.{follows-says, rule-parts}
+use Rattle.directory.proofs.Rules.{follows-says, rule-parts, lastOf}
 use Rattle.directory.proofs.Sound.{sound-says}
-use Rattle.segment.specs.Answer.{Answer, refused, written}
-use Rattle.plan.specs.Plan.{lastUsed, appendTestOf, planOf, planAfter, planAppendOf}
+use Rattle.segment.specs.Answer.{Added}
+use Rattle.plan.specs.Plan.{lastUsed, newSegment, appendTestOf, planOf, planAppendOf}
 use Rattle.directory.specs.Image.{segmentBytes}
-use Rattle.segment.specs.Writing.{Log, lowestOf, refusedAs, appendAs, writtenOf, ifTested, appendEntryOf, contentOf, appendOf}
+use Rattle.segment.specs.Writing.{Log, refusedWith, writtenBy, appendEntryOf, encodedOf, appendOf}
 use Rattle.segment.specs.declared.SegmentManager.{SegmentManager}
-use Rattle.plan.specs.declared.Plan.{Plan}
-use Rattle.plan.specs.declared.Plan.the-variants as Planned
 use Rattle.plan.specs.declared.Write.{Write}
-use Rattle.plan.proofs.Plans.{IsBehind, last-is, plan-says, test-says}
+use Rattle.plan.proofs.Plans.{IsBehind, last-is, plan-says, test-says, append-says}
 
 -- ---- the bytes of an entry
 
@@ -68,21 +63,26 @@ EncodedAs (Encodes.Written n) content tx time target = (n ≤ length target) × 
 EncodedAs Encodes.NotWellFormed content tx time target = isWellFormed content ≡ false
 EncodedAs Encodes.NoRoom content tx time target = ⊥
 
-put-says : (content : Content) (tx time : ℕ) (before : List ℕ) → 612 ≤ length before → wellFormed content ≡ true → EncodedAs (putAnswer (payloadOf tx time content) (length before)) (some content) tx time (putTarget (payloadOf tx time content) before)
-unfolding putAnswer putTarget
+put-says : (content : Content) (tx time : ℕ) (before : List ℕ) → 612 ≤ length before → wellFormed content ≡ true → EncodedAs (putOf (payloadOf tx time content) before .answer) (some content) tx time (putOf (payloadOf tx time content) before .target)
+unfolding putOf
 put-says content tx time before h e =
     let p = payloadOf tx time content in
     let l : length p ≤ length before = omega (arith, payload-most tx time content e) in
     rw (le-leb (length p) (length before) l, length-sets, sets-front before p l, take-append-seam) (l, (e, refl))
 
-pub encode-says : (content : Option Content) (tx time : ℕ) (before after : List ℕ) (r : Encoded) → 612 ≤ length before → EncodeIs content tx time before after r → EncodedAs r content tx time after
-encode-says none tx time before after r h e = rw (e .answer) refl
-encode-says (some content) tx time before after r h e =
-    rw (e .answer, e .target)
-    (caseB (wellFormed content) (λ q. rw q (put-says content tx time before h q)) (λ q. rw q q))
+pub encode-says : (content : Option Content) (tx time : ℕ) (before after : List ℕ) (r : Encoded) → 612 ≤ length before → encoding r after ≡ encodeOf content tx time before → EncodedAs r content tx time after
+unfolding encodeOf
+encode-says content tx time before after r h e =
+    let a : r ≡ encodeOf content tx time before .answer = ap (λ (x : Encoding). x .answer) e in
+    let t : after ≡ encodeOf content tx time before .target = ap (λ (x : Encoding). x .target) e in
+    rw (a, t) (says content)
+  where
+    says : (content : Option Content) → EncodedAs (encodeOf content tx time before .answer) content tx time (encodeOf content tx time before .target)
+    says none = refl
+    says (some content) = caseB (wellFormed content) (λ q. rw q (put-says content tx time before h q)) (λ q. rw q q)
 
 -- any answer but the first is that of an entry that is not well-formed
-pub encode-refuses : (content : Option Content) (tx time : ℕ) (before after : List ℕ) (r : Encoded) → 612 ≤ length before → EncodeIs content tx time before after r → OneOf (1 ∷ 2 ∷ []) (tagOf the-type r) → isWellFormed content ≡ false
+pub encode-refuses : (content : Option Content) (tx time : ℕ) (before after : List ℕ) (r : Encoded) → 612 ≤ length before → encoding r after ≡ encodeOf content tx time before → OneOf (1 ∷ 2 ∷ []) (tagOf the-type r) → isWellFormed content ≡ false
 encode-refuses content tx time before after r h e = by r (encode-says content tx time before after r h e)
   where
     by : (r : Encoded) → EncodedAs r content tx time after → OneOf (1 ∷ 2 ∷ []) (tagOf the-type r) → isWellFormed content ≡ false
@@ -90,36 +90,24 @@ encode-refuses content tx time before after r h e = by r (encode-says content tx
     by Encodes.NotWellFormed s k = s
     by Encodes.NoRoom s k = absurd s
 
-module _ (m : SegmentManager) (area d : List ℕ) (used lsn : ℕ) (payload : List ℕ) where
-  -- a plan with its test is the test, and then the plan
-  planned : (t : Tested) (p : Plan) → appendAs (planAfter t p) m area d lsn payload ≡ ifTested t m area d (appendAs p m area d lsn payload)
-  planned (Test.Refused refusal) p = refl
-  planned Sound p = refl
-
-  pub entry-planned : appendAs (planAppendOf (m .«max_segment_size») (length area) d used (length payload)) m area d lsn payload ≡ appendEntryOf m area d used lsn payload
-  unfolding planAppendOf appendEntryOf writtenOf
-  entry-planned = planned (appendTestOf (length area) d used) (planOf (m .«max_segment_size») (length area) d used (length payload))
-
 module _ (m : SegmentManager) (area d : List ℕ) (used lsn tx time : ℕ) where
   -- the entry call is the raw call on the entry's encoding
   pub entry-is-raw : (content : Content) → wellFormed content ≡ true → appendOf m area d used lsn tx time (some content) ≡ appendEntryOf m area d used lsn (payloadOf tx time content)
-  unfolding appendOf appendEntryOf contentOf
-  entry-is-raw content e = rw e
+  unfolding appendOf appendEntryOf planAppendOf
+  entry-is-raw content e = rw e (by-cases (appendTestOf (length area) d used) (λ n q. rw q) (λ x q. rw q))
 
   pub entry-written : (content : Option Content) (bytes : List ℕ) → PayloadIs content tx time bytes → appendEntryOf m area d used lsn bytes ≡ appendOf m area d used lsn tx time content
   entry-written none bytes p = absurd p
   entry-written (some content) bytes p = rw (p .1) (sym (entry-is-raw content (p .0)))
 
-  -- else it is refused, by the lowest number
-  lowest : (t : Tested) (content : Option Content) → isWellFormed content ≡ false → refusedAs (lowestOf t InvalidEntry) m area d ≡ ifTested t m area d (contentOf content m area d used lsn tx time)
-  unfolding contentOf
-  lowest (Test.Refused refusal) content e = refl
-  lowest Sound none e = refl
-  lowest Sound (some content) e = rw e
+  refused-3 : (content : Option Content) → isWellFormed content ≡ false → encodedOf tx time content ≡ refused 3
+  refused-3 content e = rw e
 
-  pub entry-not-written : (content : Option Content) → isWellFormed content ≡ false → refusedAs (lowestOf (appendTestOf (length area) d used) InvalidEntry) m area d ≡ appendOf m area d used lsn tx time content
+  -- else it is refused, by the lowest number
+  pub entry-not-written : (content : Option Content) → isWellFormed content ≡ false → refusedWith (byAnswer (appendTestOf (length area) d used) (λ number. number) (λ _. 3)) m area d ≡ appendOf m area d used lsn tx time content
   unfolding appendOf
-  entry-not-written content e = lowest (appendTestOf (length area) d used) content e
+  entry-not-written content e =
+      rw (refused-3 content e) (by-cases (appendTestOf (length area) d used) (λ n q. rw q) (λ x q. rw q))
 
 -- ---- the images
 
@@ -164,7 +152,7 @@ image-behind area payload s k rotated w b =
     let e = entry-length payload in
     rw (b .write, ← e) (image-grown area (entryBytes payload) (s .start) (s .length) (rw e (omega arith)))
 
-module _ (bound : ℕ) (area d : List ℕ) (used : ℕ) (payload : List ℕ) (w : Write) (p : planOf bound (length area) d used (length payload) ≡ Planned.Write w) where
+module _ (bound : ℕ) (area d : List ℕ) (used : ℕ) (payload : List ℕ) (w : Write) (p : planOf bound (length area) d used (length payload) ≡ accepted w) where
   pub image-active : w .rotated ≡ false → segmentBytes (sets area (w .at) (entryBytes payload)) (w .segment) ≡ segmentBytes area (lastUsed d used) ++ entryBytes payload
   image-active e =
       ⊎-elim (λ b. image-behind area payload _ _ _ w b) (λ r. let f : w .rotated ≡ true = rw (r .behind .write) in absurd (false≢true (sym e ∙ f)))
@@ -178,7 +166,7 @@ module _ (bound : ℕ) (area d : List ℕ) (used : ℕ) (payload : List ℕ) (w 
       (plan-says bound (length area) d used (length payload) w p)
 
   -- every segment that was there has the bytes that it had
-  pub images-old : testOf (length area) d used ≡ Sound → 0 < used → map (segmentBytes (sets area (w .at) (entryBytes payload))) (recordsOf used d) ≡ map (segmentBytes area) (recordsOf used d)
+  pub images-old : testOf (length area) d used ≡ sound → 0 < used → map (segmentBytes (sets area (w .at) (entryBytes payload))) (recordsOf used d) ≡ map (segmentBytes area) (recordsOf used d)
   unfolding newSegment
   images-old e h =
       let at : w .at ≡ endOf (lastUsed d used) =
@@ -190,83 +178,50 @@ module _ (bound : ℕ) (area d : List ℕ) (used : ℕ) (payload : List ℕ) (w 
 
 -- an accepted append did what a plan says
 pub record Accepts (m : SegmentManager) (area d : List ℕ) (used lsn : ℕ) (payload : List ℕ) (w : Write) : Type 0 where
-  pub sound : testOf (length area) d used ≡ Sound
+  pub sounds : testOf (length area) d used ≡ sound
   pub some : 0 < used
-  pub plan : planOf (m .«max_segment_size») (length area) d used (length payload) ≡ Planned.Write w
-  pub log : appendEntryOf m area d used lsn payload ≡ appendAs (Planned.Write w) m area d lsn payload
+  pub plan : planOf (m .«max_segment_size») (length area) d used (length payload) ≡ accepted w
+  pub log : appendEntryOf m area d used lsn payload ≡ writtenBy w m area d lsn payload
 
 module _ (m : SegmentManager) (area d : List ℕ) (used lsn : ℕ) where
-  pub accepted : (payload : List ℕ) (u n : ℕ) → appendEntryOf m area d used lsn payload .answer ≡ written u n → (w : Write) × Accepts m area d used lsn payload w
-  unfolding appendEntryOf writtenOf
-  accepted payload u n e =
-      told (appendTestOf (length area) d used) refl (planOf (m .«max_segment_size») (length area) d used (length payload)) refl e
+  pub entry-accepted : (payload : List ℕ) (x : Added) → appendEntryOf m area d used lsn payload .answer ≡ accepted x → (w : Write) × Accepts m area d used lsn payload w
+  unfolding appendEntryOf
+  entry-accepted payload x e =
+      by-cases (planAppendOf (m .«max_segment_size») (length area) d used (length payload)) (λ n q. never-both (rw q at e)) (λ w q. did w q)
     where
-      told : (t : Tested) → appendTestOf (length area) d used ≡ t → (p : Plan) → planOf (m .«max_segment_size») (length area) d used (length payload) ≡ p → ifTested t m area d (appendAs p m area d lsn payload) .answer ≡ written u n → (w : Write) × Accepts m area d used lsn payload w
-      told (Test.Refused refusal) f p g e = let z : _≡_ {A = ℕ} 0 1 = cc in absurd (omega arith)
-      told Sound f (Planned.Refused refusal) g e = let z : _≡_ {A = ℕ} 0 1 = cc in absurd (omega arith)
-      told Sound f (Planned.Write w) g e =
-          let s = test-says (length area) d used f in
-          (w, record { sound = s .0; some = s .1; plan = g; log = rw (f, g) })
+      did : (w : Write) → planAppendOf (m .«max_segment_size») (length area) d used (length payload) ≡ accepted w → (w : Write) × Accepts m area d used lsn payload w
+      did w q =
+          let p = append-says _ _ _ _ _ _ q in
+          let s = test-says (length area) d used (p .0) in
+          (w, record { sounds = s .0; some = s .1; plan = p .1; log = rw q })
 
   -- "Every refusal leaves the directory, area, writer state .. unchanged."
-  abbrev unchanged : Answer → Log
+  abbrev unchanged : Answer Added → Log
   unchanged answer = record { answer = answer; manager = m; directory = d; area = area }
 
-  Kept : ℕ → Log → Type 0
-  Kept number log = log .answer ≡ refused number → log ≡ unchanged (refused number)
+  pub entry-refused : (payload : List ℕ) (number : ℕ) → appendEntryOf m area d used lsn payload .answer ≡ refused number → appendEntryOf m area d used lsn payload ≡ refusedWith number m area d
+  unfolding appendEntryOf
+  entry-refused payload number e =
+      by-cases (planAppendOf (m .«max_segment_size») (length area) d used (length payload)) (λ n q. rw q (ap unchanged (rw q at e))) (λ w q. never-both (sym (rw q at e)))
 
-  refused-kept : (number : ℕ) (x : Refusal) → Kept number (refusedAs x m area d)
-  unfolding Kept
-  refused-kept number x e = ap unchanged e
-
-  plan-kept : (number : ℕ) (p : Plan) (payload : List ℕ) → Kept number (appendAs p m area d lsn payload)
-  unfolding Kept
-  plan-kept number (Planned.Refused x) payload e = ap unchanged e
-  plan-kept number (Planned.Write w) payload e = let z : _≡_ {A = ℕ} 0 1 = cc in absurd (omega arith)
-
-  tested-kept : (number : ℕ) (t : Tested) (log : Log) → Kept number log → Kept number (ifTested t m area d log)
-  unfolding Kept
-  tested-kept number (Test.Refused x) log k e = ap unchanged e
-  tested-kept number Sound log k e = k e
-
-  written-kept : (number : ℕ) (payload : List ℕ) → Kept number (writtenOf m area d used lsn payload)
-  unfolding writtenOf
-  written-kept number payload =
-      plan-kept number (planOf (m .«max_segment_size») (length area) d used (length payload)) payload
-
-  content-kept : (number tx time : ℕ) (content : Option Content) → Kept number (contentOf content m area d used lsn tx time)
-  unfolding contentOf
-  content-kept number tx time none = refused-kept number InvalidEntry
-  content-kept number tx time (some content) =
-      caseB (wellFormed content) (λ q. rw q (written-kept number (payloadOf tx time content))) (λ q. rw q (refused-kept number InvalidEntry))
-
-  pub entry-refused : (payload : List ℕ) (number : ℕ) → appendEntryOf m area d used lsn payload .answer ≡ refused number → appendEntryOf m area d used lsn payload ≡ unchanged (refused number)
-  unfolding appendEntryOf Kept
-  entry-refused payload number =
-      tested-kept number (appendTestOf (length area) d used) (writtenOf m area d used lsn payload) (written-kept number payload)
-
-  pub append-refused : (tx time : ℕ) (content : Option Content) (number : ℕ) → appendOf m area d used lsn tx time content .answer ≡ refused number → appendOf m area d used lsn tx time content ≡ unchanged (refused number)
-  unfolding appendOf Kept
-  append-refused tx time content number =
-      tested-kept number (appendTestOf (length area) d used) (contentOf content m area d used lsn tx time) (content-kept number tx time content)
+  pub append-refused : (tx time : ℕ) (content : Option Content) (number : ℕ) → appendOf m area d used lsn tx time content .answer ≡ refused number → appendOf m area d used lsn tx time content ≡ refusedWith number m area d
+  unfolding appendOf
+  append-refused tx time content number e =
+      by-cases (andThen (appendTestOf (length area) d used) (λ _. encodedOf tx time content)) (λ n q. rw q (ap unchanged (rw q at e))) (λ payload q. rw q (entry-refused payload number (rw q at e)))
 
   -- the entry call is the raw call on the entry's encoding wherever it isn't refused with 3
   pub entry-not-3 : (tx time : ℕ) (content : Content) → (appendOf m area d used lsn tx time (some content) .answer ≡ refused 3 → ⊥) → appendOf m area d used lsn tx time (some content) ≡ appendEntryOf m area d used lsn (payloadOf tx time content)
-  unfolding appendOf appendEntryOf contentOf
+  unfolding appendOf appendEntryOf planAppendOf
   entry-not-3 tx time content n =
-      caseB (wellFormed content) (λ q. entry-is-raw m area d used lsn tx time content q) (λ q. other q (appendTestOf (length area) d used) (rw q at n))
-    where
-      other : wellFormed content ≡ false → (t : Tested) → (ifTested t m area d (refusedAs InvalidEntry m area d) .answer ≡ refused 3 → ⊥) → ifTested t m area d (contentOf (some content) m area d used lsn tx time) ≡ ifTested t m area d (writtenOf m area d used lsn (payloadOf tx time content))
-      other q (Test.Refused x) n = refl
-      other q Sound n = absurd (n refl)
+      caseB (wellFormed content) (λ q. entry-is-raw m area d used lsn tx time content q)
+      (λ q. by-cases (appendTestOf (length area) d used) (λ k t. rw t) (λ x t. absurd (n (rw (t, q)))))
 
   -- what the entry call accepts is well-formed
-  pub append-accepted : (tx time : ℕ) (content : Option Content) (u n : ℕ) → appendOf m area d used lsn tx time content .answer ≡ written u n → isWellFormed content ≡ true
-  unfolding appendOf contentOf
-  append-accepted tx time content u n e = told (appendTestOf (length area) d used) content e
+  pub append-accepted : (tx time : ℕ) (content : Option Content) (x : Added) → appendOf m area d used lsn tx time content .answer ≡ accepted x → isWellFormed content ≡ true
+  unfolding appendOf
+  append-accepted tx time content x e =
+      by-cases (andThen (appendTestOf (length area) d used) (λ _. encodedOf tx time content)) (λ n q. never-both (rw q at e))
+      (λ payload q. well content payload (then-says (appendTestOf (length area) d used) (λ _. encodedOf tx time content) payload q .second))
     where
-      told : (t : Tested) (content : Option Content) → ifTested t m area d (contentOf content m area d used lsn tx time) .answer ≡ written u n → isWellFormed content ≡ true
-      told (Test.Refused x) content e = let z : _≡_ {A = ℕ} 0 1 = cc in absurd (omega arith)
-      told Sound none e = let z : _≡_ {A = ℕ} 0 1 = cc in absurd (omega arith)
-      told Sound (some content) e =
-          caseB (wellFormed content) (λ q. q) (λ q. let f = rw q at e in let z : _≡_ {A = ℕ} 0 1 = cc in absurd (omega arith))
+      well : (content : Option Content) (payload : List ℕ) → encodedOf tx time content ≡ accepted payload → isWellFormed content ≡ true
+      well content payload e = caseB (isWellFormed content) (λ q. q) (λ q. never-both (rw q at e))

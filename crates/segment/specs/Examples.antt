@@ -6,14 +6,13 @@ use mathlib.Core.Option.{some}
 use Prim.Native.Nat.{ℕ, _-_, _^_}
 use lib.ListN.{replicate}
 use Rattle.fields.specs.Le.{leOf, leBytes}
-use Rattle.refusal.specs.declared.Refusal.the-variants.{NoRoom}
+use Rattle.refusal.specs.Answer.{accepted}
 use Rattle.directory.specs.Lent.{fitsOf}
 use Rattle.directory.specs.Record.{recordAt, recordBytes, recordsOf}
 use Rattle.directory.specs.Rule.{liesOf, followsOf, ruleFrom, directoryRule, testOf}
 use Rattle.payload.specs.Content.{commit, fixedBytes, payloadOf, wellFormed}
-use Rattle.plan.specs.Plan.{appendTestOf, behindOf, planOf}
-use Rattle.segment.specs.Answer.{written}
-use Rattle.segment.specs.Writing.{fresh, counted, refusedAs, writtenOf, contentOf, appendOf}
+use Rattle.plan.specs.Plan.{appendTestOf, behindOf, planOf, planAppendOf}
+use Rattle.segment.specs.Writing.{fresh, counted, refusedWith, appendEntryOf, appendOf}
 
 -- a record's bytes
 abbrev at : ℕ → ℕ → ℕ → List ℕ
@@ -32,11 +31,11 @@ unfolding counted
 unset-first = refl
 
 -- document 01, "Bench readings": commit, number 7, time 1 takes 33 bytes with its header
-commit-7 : appendOf (fresh 100) (replicate 40 0) (at 1 0 0) 1 5 7 1 (some commit) .answer ≡ written 1 33
-unfolding appendOf contentOf wellFormed writtenOf planOf behindOf appendTestOf testOf fitsOf directoryRule ruleFrom followsOf liesOf recordsOf recordAt recordBytes leOf leBytes payloadOf fixedBytes
+commit-7 : appendOf (fresh 100) (replicate 40 0) (at 1 0 0) 1 5 7 1 (some commit) .answer ≡ accepted (record { used = 1; len = 33 })
+unfolding appendOf appendEntryOf wellFormed planAppendOf planOf behindOf appendTestOf testOf fitsOf directoryRule ruleFrom followsOf liesOf recordsOf recordAt recordBytes leOf leBytes payloadOf fixedBytes
 commit-7 = refl
 
 -- one byte fewer has no room for it, and nothing changes
-commit-7-refused : appendOf (fresh 100) (replicate 32 0) (at 1 0 0) 1 5 7 1 (some commit) ≡ refusedAs NoRoom (fresh 100) (replicate 32 0) (at 1 0 0)
-unfolding appendOf contentOf wellFormed writtenOf planOf behindOf appendTestOf testOf fitsOf directoryRule ruleFrom followsOf liesOf recordsOf recordAt recordBytes leOf leBytes payloadOf fixedBytes
+commit-7-refused : appendOf (fresh 100) (replicate 32 0) (at 1 0 0) 1 5 7 1 (some commit) ≡ refusedWith 5 (fresh 100) (replicate 32 0) (at 1 0 0)
+unfolding appendOf appendEntryOf wellFormed planAppendOf planOf behindOf appendTestOf testOf fitsOf directoryRule ruleFrom followsOf liesOf recordsOf recordAt recordBytes leOf leBytes payloadOf fixedBytes
 commit-7-refused = refl

@@ -2,6 +2,7 @@
 use directory::rule::Tested;
 use header::WalEntryHeader;
 use payload::Encoded;
+use payload::PAYLOAD_MOST;
 use plan::NewSegment;
 use plan::Plan;
 use plan::Write;
@@ -9,11 +10,13 @@ use refusal::Refusal;
 ghost use mathlib.Core.Path.{_≡_};
 ghost use Prim.Native.Nat.{_+_, _<_, _≤_};
 ghost use lib.ListN.{length};
-ghost use Rattle.refusal.specs.declared.Refusal.the-variants.{InvalidEntry};
+ghost use Rattle.refusal.specs.Number.{numberOf};
+ghost use Rattle.refusal.specs.Answer.{byAnswer};
 ghost use Rattle.payload.specs.Encode.{asked};
+ghost use Rattle.directory.specs.Lent.{mostOf};
+ghost use Rattle.directory.specs.declared.lent.Lent.the-variants.{Directory};
 ghost use Rattle.plan.specs.Plan.{appendTestOf};
-ghost use Rattle.plan.specs.declared.Plan.the-variants as Planned;
-ghost use Rattle.segment.specs.Writing.{fresh, counted, opened, openOf, rotateOf, appended, refusing, lowestOf, activeAfter, appendAs, appendEntryOf, appendOf};
+ghost use Rattle.segment.specs.Writing.{fresh, defaultBound, counted, opened, openOf, rotateOf, appended, refusing, activeAfter, writtenBy, appendEntryOf, appendOf};
 
 pub struct SegmentManager {
     pub max_segment_size: u64,
@@ -47,7 +50,7 @@ pub struct Appending {
 
 // 3, unless 1 or 2 applies: the lowest number is given.
 fn not_well_formed(area_len: usize, directory: &[u8], used: usize) -> Refusal
-    ensures { λ r. ⌜ r ≡ lowestOf (appendTestOf «area_len» (now (directory .entry)) used) InvalidEntry ⌝ }
+    ensures { λ r. ⌜ numberOf r ≡ byAnswer (appendTestOf «area_len» (now (directory .entry)) used) (λ number. number) (λ _. 3) ⌝ }
 {
     match plan::append_test(area_len, directory, used) {
         Tested::Refused(refusal) => refusal,
@@ -70,12 +73,12 @@ impl SegmentManager {
     }
 
     pub fn with_default_size() -> Self
-        ensures { λ r. ⌜ r ≡ fresh 49_152 ⌝ }
+        ensures { λ r. ⌜ r ≡ fresh defaultBound ⌝ }
     {
         SegmentManager::new(SegmentManager::DEFAULT_MAX_SEGMENT_SIZE)
     }
 
-    // "Opening adds an empty segment."
+    // "Opening adds an empty segment".
     pub fn open(self, area: &[u8], directory: &mut [u8], used: usize) -> Opening
         ensures { λ r. ⌜ opened r (now (directory .exit)) ≡ openOf self (length (now (area .entry))) (now (directory .entry)) used ⌝ }
     {
@@ -143,8 +146,8 @@ impl SegmentManager {
         lsn: u64,
         data: &[u8],
     ) -> Appending
-        requires { ⌜ (w .at + (13 + length (now «data»)) ≤ length (now area)) × (w .k < 4_097) ⌝ }
-        ensures { λ r. ⌜ appended r (now (area .exit)) (now (directory .exit)) ≡ appendAs (Planned.Write w) self (now (area .entry)) (now (directory .entry)) lsn (now («data» .entry)) ⌝ }
+        requires { ⌜ (w .at + (13 + length (now «data»)) ≤ length (now area)) × (w .k ≤ mostOf Directory) ⌝ }
+        ensures { λ r. ⌜ appended r (now (area .exit)) (now (directory .exit)) ≡ writtenBy w self (now (area .entry)) (now (directory .entry)) lsn (now («data» .entry)) ⌝ }
     {
         let bytes = WalEntryHeader::new(data).to_bytes();
         let at = w.at;
@@ -200,8 +203,8 @@ impl SegmentManager {
     ) -> Appending
         ensures { λ r. ⌜ appended r (now (area .exit)) (now (directory .exit)) ≡ appendOf self (now (area .entry)) (now (directory .entry)) used lsn «tx_id» timestamp (asked kind (now (key .entry)) (now («old_value» .entry)) (now («new_value» .entry))) ⌝ }
     {
-        // The longest payload of a well-formed entry: `NoRoom` is never answered.
-        let mut data = [0u8; 612];
+        // Every well-formed entry's payload has room: `NoRoom` is never answered.
+        let mut data = [0u8; PAYLOAD_MOST];
         match payload::encode(kind, tx_id, timestamp, key, old_value, new_value, &mut data) {
             Encoded::Written(n) => self.append_entry(area, directory, used, lsn, &data[..n]),
             Encoded::NotWellFormed | Encoded::NoRoom => {

@@ -11,7 +11,7 @@ use lib.Dec.{eqb}
 use Rattle.fields.proofs.Cases.{caseB}
 use Rattle.fields.specs.declared.bytes.Ordering.the-variants.{Less}
 use Rattle.records.specs.Sorted.{compareNumbers, Before, Ascends}
-use Rattle.records.proofs.Dense.{All}
+use Rattle.records.specs.Dense.{All}
 use Rattle.records.proofs.Sorted.{numbers-order, rest-behind, member-record, record-member}
 use Rattle.lists.specs.Markers.{ifCommitted, hasNumber, lastMarker, countOf, saidOf}
 use Rattle.lists.specs.Transactions.{txNumber, transactionsOf}
@@ -62,7 +62,7 @@ pub order-ascends : (es : List EntryRecord) → Ascends compareNumbers itself (r
 unfolding replayOrder
 order-ascends es = committed-ascends (transactionsOf es) (transactions-ascend es)
 
--- ---- "the transactions whose last marker is a commit"
+-- ---- "the transactions whose last .. marker is a commit"
 
 -- a committed transaction of the number
 record Committed (number : ℕ) (ts : List TransactionRecord) : Type 0 where

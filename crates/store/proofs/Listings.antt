@@ -6,25 +6,24 @@ use Prim.Native.Nat.{ℕ, _-_, _*_, _/_, _^_, _<_}
 use native.Mathlib.Omega.{arith}
 use lib.ListN.{length, take}
 use lib.Seq.{take-at}
-use Rattle.records.specs.Dense.{bytesOf, dense}
-use Rattle.records.proofs.Dense.{All, length-records, dense-length}
-use Rattle.lists.specs.Entries.{entryRecordAt, entryRecordBytes}
+use Rattle.records.specs.Dense.{bytesOf, dense, All}
+use Rattle.records.proofs.Dense.{length-read, length-records, dense-length}
+use Rattle.lists.specs.Entries.{entryRecordAt, entryRecordBytes, EntryFits}
 use Rattle.lists.specs.Transactions.{transactionBytes, transactionsOf}
 use Rattle.lists.specs.declared.entries.EntryRecord.{EntryRecord}
 use Rattle.lists.specs.declared.transactions.TransactionRecord.{TransactionRecord}
-use Rattle.lists.proofs.EntryRecords.{EntryFits}
 use Rattle.chains.specs.Chain.{linkedEntryBytes, linkedTransactionBytes, linkedFrom, begunBy, linkedEntries, linkedTransactions}
-use Rattle.chains.specs.Link.{Lent, lent, linkAll, unlinkEntries, unlinkTransactions}
+use Rattle.chains.specs.Link.{Lent, lent, linkAll, unlinkAll}
 use Rattle.chains.proofs.Records.{length-linked-entry, length-linked-transaction}
 use Rattle.chains.proofs.Linking.{link-is}
 use Rattle.chains.proofs.Unlinking.{length-linked, unlink-is}
 use Rattle.chains.proofs.Firsts.{length-begun}
 use Rattle.chains.proofs.Reading.{entries-read}
-use Rattle.recovery.specs.Log.{EntryIn}
+use Rattle.recovery.specs.Payload.{EntryIn}
 use Rattle.store.specs.Order.{replayed}
 use Rattle.store.specs.Change.{runOf}
+use Rattle.refusal.specs.Answer.{Answer}
 use Rattle.store.specs.Running.{entriesIn, Linked, Ran, ranIn, listedIn, Listing}
-use Rattle.store.proofs.Tabling.{length-read}
 
 -- ---- the used part of a list
 
@@ -127,15 +126,15 @@ module _ (area entries : List ℕ) (n : ℕ) (transactions : List ℕ) (m : ℕ)
     lent-entries = entries-back area es (l .fit) (rw counted (l .few)) (l .in-area) _ _ entries-lent transactions-lent
 
     -- a run over them, in a table of as many bytes as it had
-    pub lent-ran : (a b : ℕ) → a ≡ b → (x : Ran) → x ≡ ranIn a (runOf (a / 320) area (replayed (entriesIn (take (32 * n) entries′))) []) → x ≡ ranIn b (runOf (b / 320) area (replayed es) [])
+    pub lent-ran : (a b : ℕ) → a ≡ b → (x : Answer Ran) → x ≡ ranIn a (runOf (a / 320) area (replayed (entriesIn (take (32 * n) entries′))) []) → x ≡ ranIn b (runOf (b / 320) area (replayed es) [])
     lent-ran a b q x f = rw (q, lent-entries) at f
 
     -- and those that `unlink` leaves
-    pub unlinked : (entries″ transactions″ : List ℕ) → lent entries″ transactions″ ≡ lent (unlinkEntries entries′ n) (unlinkTransactions transactions′ m) → lent entries″ transactions″ ≡ lent entries transactions
+    pub unlinked : (entries″ transactions″ : List ℕ) → lent entries″ transactions″ ≡ lent (unlinkAll 32 25 entries′ n) (unlinkAll 24 9 transactions′ m) → lent entries″ transactions″ ≡ lent entries transactions
     unlinked entries″ transactions″ f =
         f
-        ∙ ap (λ (v : Lent). lent (unlinkEntries (v .entries) n) (unlinkTransactions (v .transactions) m)) linked
-        ∙ ap (λ (v : ℕ). lent (unlinkEntries chained v) (unlinkTransactions begun m)) (sym counted)
-        ∙ ap (λ (v : ℕ). lent (unlinkEntries chained (length es)) (unlinkTransactions begun v)) (l .count)
+        ∙ ap (λ (v : Lent). lent (unlinkAll 32 25 (v .entries) n) (unlinkAll 24 9 (v .transactions) m)) linked
+        ∙ ap (λ (v : ℕ). lent (unlinkAll 32 25 chained v) (unlinkAll 24 9 begun m)) (sym counted)
+        ∙ ap (λ (v : ℕ). lent (unlinkAll 32 25 chained (length es)) (unlinkAll 24 9 begun v)) (l .count)
         ∙ unlink-is (length entries) (length transactions) es
         ∙ sym is-plain

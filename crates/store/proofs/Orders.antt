@@ -7,9 +7,9 @@ use Prim.Native.Nat.{ℕ, zero, suc, _+_, _-_, _*_, _/_, _<_, _≤_}
 use native.Mathlib.Numerals.{add-one}
 use native.Mathlib.Omega.{arith}
 use lib.ListN.{length, drop}
-use lib.Seq.{drop-drop}
 use Rattle.fields.proofs.Cases.{caseB}
 use Rattle.records.specs.Dense.{recordsOf}
+use Rattle.records.proofs.Dense.{read-turn}
 use Rattle.lists.specs.Markers.{ifCommitted}
 use Rattle.lists.specs.Transactions.{transactionAt, transactionsOf}
 use Rattle.lists.specs.declared.transactions.RecoveryAction.{RecoveryAction}
@@ -35,11 +35,7 @@ module _ (s : List ℕ) (k : ℕ) where
   transactionIn = transactionAt (drop (24 * k) s)
 
   from-turn : k < length s / 24 → transactionsFrom k s ≡ transactionIn ∷ transactionsFrom (k + 1) s
-  unfolding recordsOf
-  from-turn h =
-      let n : length s / 24 - k ≡ suc (length s / 24 - (k + 1)) = omega arith in
-      let e : 24 * k + 24 ≡ 24 * (k + 1) = omega arith in
-      rw (n, drop-drop, e)
+  from-turn h = read-turn 24 transactionAt (length s / 24) k s h
 
   from-end : length s / 24 ≤ k → transactionsFrom k s ≡ []
   unfolding recordsOf

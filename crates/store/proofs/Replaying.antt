@@ -9,14 +9,14 @@ use denote.Enum.Declared.{tagOf}
 use lib.ListN.{length, replicate}
 use Rattle.records.specs.Dense.{recordsOf}
 use Rattle.chains.specs.Chain.{entriesOf}
+use Rattle.refusal.specs.Answer.{Answer, accepted, andThen}
 use Rattle.table.specs.Row.{Row}
-use Rattle.table.specs.Table.{Result, rows}
+use Rattle.table.specs.Table.{Held}
 use Rattle.table.specs.declared.Set.{Set}
 use Rattle.table.specs.declared.Set.the-variants as Sets
 use Rattle.table.proofs.Set.{the-type}
-use Rattle.table.proofs.Tables.{Held}
 use Rattle.store.specs.Order.{entriesInTurn, replayed}
-use Rattle.store.specs.Change.{andThen, runOf}
+use Rattle.store.specs.Change.{runOf}
 use Rattle.store.specs.Running.{transactionsFrom, nextFrom, entriesIn, rowsIn, Linked, Tabled, ranTo, ranIn}
 use Rattle.store.proofs.Runs.{run-append, run-held}
 use Rattle.store.proofs.Orders.{transactionIn, orderFrom, InOrder, next-says, order-turn, order-end, order-start}
@@ -37,17 +37,17 @@ replaying-starts area entries transactions l table z k e =
     record { first = n .first; same = rw order; tabled = none-tabled table z; room = refl }
 
 module _ (area entries transactions table₀ : List ℕ) (k : ℕ) (table : List ℕ) (n : ℕ) (inside : k < length transactions / 24) (w : Replaying area entries transactions table₀ k table n) where
-  abbrev turn : Result
+  abbrev turn : Answer (List Row)
   turn = runOf (length table₀ / 320) area (entriesOf (transactionIn transactions k .«tx_id») (entriesIn entries)) (rowsIn n table)
 
-  abbrev rest : List Row → Result
+  abbrev rest : List Row → Answer (List Row)
   rest = runOf (length table₀ / 320) area (entriesInTurn (orderFrom (k + 1) transactions) (entriesIn entries))
 
   runs : runOf (length table₀ / 320) area (entriesInTurn (orderFrom k transactions) (entriesIn entries)) (rowsIn n table) ≡ andThen turn rest
   unfolding entriesInTurn
   runs = rw (order-turn transactions k inside (w .first)) (run-append (length table₀ / 320) area _ _ (rowsIn n table))
 
-  turn-held : (new : List Row) → turn ≡ rows new → Held (length table₀) new
+  turn-held : (new : List Row) → turn ≡ accepted new → Held (length table₀) new
   turn-held new q = run-held (length table₀) area _ (rowsIn n table) new (rw (w .room) at (w .tabled .held)) q
 
   module _ (r : Set) (t : List ℕ) (a : ranTo r t ≡ ranIn (length table) (runOf (length table / 320) area (entriesOf (transactionIn transactions k .«tx_id») (entriesIn entries)) (rowsIn n table))) where

@@ -1,4 +1,5 @@
 pub mod Order
+pub mod Effect
 pub mod Change
 pub mod Left
 pub mod Apply

@@ -5,24 +5,21 @@ use mathlib.Core.Path.{_≡_}
 use mathlib.Core.List.{List, [], _∷_}
 use Prim.Native.Nat.{ℕ, suc, _-_, _*_, _/_, _^_, _<_, _≤_}
 use lib.ListN.{length, drop}
-use Rattle.refusal.specs.declared.Refusal.the-variants.{ExceedsTableRecord, TableFull}
-use Rattle.records.specs.Dense.{dense, recordsOf}
-use Rattle.records.proofs.Dense.{All}
-use Rattle.lists.specs.Entries.{entryRecordAt, entryRecordBytes}
+use Rattle.refusal.specs.Answer.{Answer, refused, accepted, byAnswer}
+use Rattle.records.specs.Dense.{dense, recordsOf, All}
+use Rattle.lists.specs.Entries.{entryRecordAt, entryRecordBytes, EntryFits}
 use Rattle.lists.specs.Markers.{ifCommitted}
 use Rattle.lists.specs.Transactions.{transactionAt, transactionBytes, transactionsOf}
 use Rattle.lists.specs.declared.entries.EntryRecord.{EntryRecord}
 use Rattle.lists.specs.declared.transactions.TransactionRecord.{TransactionRecord}
-use Rattle.lists.proofs.EntryRecords.{EntryFits}
 use Rattle.chains.specs.Chain.{linkedEntries, linkedTransactions}
-use Rattle.recovery.specs.Log.{EntryIn}
+use Rattle.recovery.specs.Payload.{EntryIn}
 use Rattle.recovery.specs.declared.Recovered.{Recovered}
 use Rattle.recovery.specs.declared.Recovery.the-variants as Recovers
 use Rattle.table.specs.Row.{Row, rowAt}
-use Rattle.table.specs.Table.{Result, too-long, full, rows, tableOf}
+use Rattle.table.specs.Table.{tableOf, Held}
+use Rattle.table.specs.Change.{setAs}
 use Rattle.table.specs.declared.Set.{Set}
-use Rattle.table.specs.declared.Set.the-variants as Sets
-use Rattle.table.proofs.Tables.{Held}
 use Rattle.store.specs.Order.{replayed}
 use Rattle.store.specs.Change.{runOf}
 use Rattle.store.specs.Replay.{Replaying, replaying, refusedEmpty}
@@ -57,21 +54,19 @@ pub record Tabled (table : List ℕ) (n : ℕ) : Type 0 where
   pub held : Held (length table) (rowsIn n table)
 
 -- what a run comes to in bytes; of one that ended early the table plays no part
-pub data Ran : Type 0 where
-  over-long : Ran
-  no-record : Ran
-  ran : (n : ℕ) → (table : List ℕ) → Ran
+pub record Ran : Type 0 where
+  pub count : ℕ
+  pub table : List ℕ
 
-abbrev pub ranTo : Set → (table : List ℕ) → Ran
-ranTo Sets.TooLong table = over-long
-ranTo Sets.Full table = no-record
-ranTo (Sets.Rows n) table = ran n table
+abbrev pub ran : (count : ℕ) → (table : List ℕ) → Answer Ran
+ran count table = accepted (record { count = count; table = table })
+
+abbrev pub ranTo : Set → (table : List ℕ) → Answer Ran
+ranTo r table = byAnswer (setAs r) (λ number. refused number) (λ n. ran n table)
 
 -- in a table of so many bytes
-abbrev pub ranIn : (room : ℕ) → Result → Ran
-ranIn room too-long = over-long
-ranIn room full = no-record
-ranIn room (rows rs) = ran (length rs) (tableOf room rs)
+abbrev pub ranIn : (room : ℕ) → Answer (List Row) → Answer Ran
+ranIn room run = byAnswer run (λ number. refused number) (λ rs. ran (length rs) (tableOf room rs))
 
 -- ---- around the run
 
@@ -96,9 +91,7 @@ pub record RanIs (area entries : List ℕ) (n : ℕ) (transactions : List ℕ) (
   pub runs : ranTo r table′ ≡ ranIn room (runOf (room / 320) area (replayed (listedIn n entries)) [])
 
 -- what replay answers and leaves after a run
-abbrev pub concludedAs : Set → Recovered → (entries transactions table : List ℕ) → Replaying
-concludedAs (Sets.Rows n) recovered entries transactions table = replaying (Recovers.Done recovered) entries transactions table
-concludedAs Sets.TooLong recovered entries transactions table =
-    refusedEmpty ExceedsTableRecord (length entries) (length transactions) (length table)
-concludedAs Sets.Full recovered entries transactions table =
-    refusedEmpty TableFull (length entries) (length transactions) (length table)
+abbrev pub concludedBy : Set → Recovered → (entries transactions table : List ℕ) → Replaying
+concludedBy set recovered entries transactions table =
+    byAnswer (setAs set) (λ number. refusedEmpty number (length entries) (length transactions) (length table))
+    (λ _. replaying (Recovers.Done recovered) entries transactions table)

@@ -8,9 +8,10 @@ ghost use mathlib.Core.Path.{_≡_};
 ghost use Prim.Native.Nat.{_≤_};
 ghost use lib.ListN.{length};
 ghost use Rattle.entry.specs.Decode.{bytesAt, endOf};
-ghost use Rattle.recovery.specs.Log.{EntryIn};
-ghost use Rattle.table.specs.Change.{changed};
-ghost use Rattle.store.specs.Apply.{applyIn};
+ghost use Rattle.recovery.specs.Payload.{EntryIn};
+ghost use Rattle.table.specs.Change.{changing};
+ghost use Rattle.store.specs.Apply.{changeOf};
+ghost use Rattle.store.specs.Effect.{effectIn};
 
 // A key or a value, where it stands in its payload.
 fn bytes_at(payload: &[u8], place: Place) -> &[u8]
@@ -25,7 +26,7 @@ fn bytes_at(payload: &[u8], place: Place) -> &[u8]
 // An entry that the recovery listed, applied among the first `rows` rows. Nothing is copied but into the table.
 pub(crate) fn apply(area: &[u8], listed: EntryRecord, table: &mut [u8], rows: usize) -> Set
     requires { ⌜ EntryIn (now area) listed ⌝ }
-    ensures { λ r. ⌜ changed r (now (table .exit)) ≡ applyIn (now (area .entry)) listed (now (table .entry)) rows ⌝ }
+    ensures { λ r. ⌜ changing r (now (table .exit)) ≡ changeOf (effectIn (now (area .entry)) listed) (now (table .entry)) rows ⌝ }
 {
     let start = listed.place as usize;
     let end = start + listed.len as usize;

@@ -10,7 +10,7 @@ ghost use mathlib.Core.Path.{_≡_};
 ghost use lib.ListN.{length};
 ghost use Rattle.refusal.specs.Number.{numberOf};
 ghost use Rattle.store.specs.Replay.{replaying, refusedEmpty, tableAfter, replayOf};
-ghost use Rattle.store.specs.Running.{Listing, RanIs, concludedAs};
+ghost use Rattle.store.specs.Running.{Listing, RanIs, concludedBy};
 
 mod apply;
 mod transactions;
@@ -58,7 +58,7 @@ fn refused_empty(
     table: &mut [u8],
     refusal: Refusal,
 ) -> Recovery
-    ensures { λ r. ⌜ replaying r (now (entries .exit)) (now (transactions .exit)) (now (table .exit)) ≡ refusedEmpty refusal (length (now (entries .entry))) (length (now (transactions .entry))) (length (now (table .entry))) ⌝ }
+    ensures { λ r. ⌜ replaying r (now (entries .exit)) (now (transactions .exit)) (now (table .exit)) ≡ refusedEmpty (numberOf refusal) (length (now (entries .entry))) (length (now (transactions .entry))) (length (now (table .entry))) ⌝ }
 {
     fields::bytes::clear(entries);
     fields::bytes::clear(transactions);
@@ -74,7 +74,7 @@ fn concluded(
     transactions: &mut [u8],
     table: &mut [u8],
 ) -> Recovery
-    ensures { λ r. ⌜ replaying r (now (entries .exit)) (now (transactions .exit)) (now (table .exit)) ≡ concludedAs set recovered (now (entries .entry)) (now (transactions .entry)) (now (table .entry)) ⌝ }
+    ensures { λ r. ⌜ replaying r (now (entries .exit)) (now (transactions .exit)) (now (table .exit)) ≡ concludedBy set recovered (now (entries .entry)) (now (transactions .entry)) (now (table .entry)) ⌝ }
 {
     match set {
         Set::Rows(_) => Recovery::Done(recovered),

@@ -1,4 +1,5 @@
 // The committed transactions, applied in replay's order. Both lists come without their unused records.
+use lists::entries::EntryRecord;
 use lists::transactions::RecoveryAction;
 use lists::transactions::TransactionRecord;
 use table::Set;
@@ -53,7 +54,12 @@ fn apply_transaction(
     ensures { λ r. ⌜ ranTo r (now (table .exit)) ≡ ranIn (length (now (table .entry))) (runOf (length (now (table .entry)) / 320) (now (area .entry)) (entriesOf (transactionAt (drop (24 * k) (now (transactions .entry))) .«tx_id») (entriesIn (now (entries .entry)))) (rowsIn rows (now (table .entry)))) ⌝ }
 {
     let mut count = rows;
-    let mut link = chains::links::transaction_link(transactions, k);
+    let mut link = chains::links::spare(
+        transactions,
+        TransactionRecord::SIZE,
+        TransactionRecord::SPARE,
+        k,
+    );
     while 0 < link {
         let at = (link - 1) as usize;
         let set = crate::apply::apply(area, lists::entries::entry_at(entries, at), table, count);
@@ -61,7 +67,7 @@ fn apply_transaction(
             return set;
         };
         count = changed;
-        link = chains::links::entry_link(entries, at);
+        link = chains::links::spare(entries, EntryRecord::SIZE, EntryRecord::SPARE, at);
     }
     Set::Rows(count)
 }

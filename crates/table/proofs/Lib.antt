@@ -1,5 +1,5 @@
 pub mod Rows
-pub mod Moved
+pub mod Within
 pub mod Tables
 pub mod Lookups
 pub mod Live

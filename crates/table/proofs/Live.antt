@@ -8,12 +8,10 @@ use lib.ListN.{length, drop, replicate}
 use lib.Seq.{drop-at}
 use Rattle.fields.specs.Le.{leOf}
 use Rattle.fields.proofs.Numbers.{num-front}
-use Rattle.records.specs.Dense.{bytesOf, dense}
-use Rattle.records.proofs.Dense.{All}
+use Rattle.records.specs.Dense.{bytesOf, dense, All}
 use Rattle.table.specs.Row.{Row, RowFits, markedBytes, rowBytes, rowRecordAt}
-use Rattle.table.specs.Table.{tableOf, liveRows}
+use Rattle.table.specs.Table.{tableOf, liveRows, Held}
 use Rattle.table.proofs.Rows.{length-row, row-back}
-use Rattle.table.proofs.Tables.{Held}
 
 row-live : (r : Row) (rest : List ℕ) → rowRecordAt (rowBytes r ++ rest) .mark ≡ 1
 unfolding rowRecordAt markedBytes

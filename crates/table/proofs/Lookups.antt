@@ -8,7 +8,7 @@ use Prim.Native.Nat.{ℕ, _≤_}
 use lib.ListN.{length}
 use Rattle.fields.specs.Order.{compareBytes}
 use Rattle.records.specs.Sorted.{recordOf}
-use Rattle.records.proofs.Dense.{All}
+use Rattle.records.specs.Dense.{All}
 use Rattle.records.proofs.Sorted.{bytes-order, changedOr, put-all, put-ascends, put-record, put-other, remove-all, remove-length, remove-ascends, remove-record, remove-other, record-key, same-records}
 use Rattle.table.specs.Row.{Row, rowOf, keyOf, RowFits}
 use Rattle.table.specs.Table.{Sorted, set, removeKey, valueOf, lookup}

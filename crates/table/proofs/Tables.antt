@@ -7,27 +7,21 @@ use Prim.Native.Nat.{ℕ, _+_, _-_, _*_, _/_, _≤_}
 use native.Mathlib.Omega.{arith}
 use borrow.Author.Tests.{le-leb, lt-leb}
 use lib.Dec.{leb}
-use lib.ListN.{length, drop, length-append}
+use lib.ListN.{length, length-append}
 use Rattle.fields.specs.Order.{compareBytes}
 use Rattle.fields.proofs.Cases.{caseB, tests}
+use Rattle.refusal.specs.Answer.{refused, accepted}
 use Rattle.records.specs.Sorted.{placeOf}
 use Rattle.records.specs.declared.Found.{Found}
 use Rattle.records.specs.declared.Found.the-variants.{At, Gap}
-use Rattle.records.proofs.Dense.{All, dense-length, dense-changed, dense-inserted, dense-removed, record-back}
+use Rattle.records.proofs.Dense.{dense-length, dense-changed, dense-inserted, dense-removed}
 use Rattle.records.proofs.Sorted.{bytes-order, place-at, place-gap}
 use Rattle.records.proofs.Halving.{halve-dense}
 use Rattle.table.specs.Row.{Row, keyOf, fits, RowFits, rowBytes, emptyBytes, rowAt}
-use Rattle.table.specs.Table.{Sorted, set, removeKey, too-long, full, rows, setIn, tableOf}
+use Rattle.table.specs.Table.{Held, set, removeKey, setIn, tableOf}
 use Rattle.table.specs.Change.{orderIn, usedIn, foundOf, changed, insertOf, setAt, setOf, removeAt, removeOf, resultIn}
-use Rattle.table.specs.declared.Set.the-variants.{Rows}
 use Rattle.table.proofs.Rows.{fits-true, length-row, row-back, empty-is}
 use Rattle.table.proofs.Lookups.{set-sorted, set-fits, remove-sorted, remove-fits, remove-most}
-
--- rows that a table of so many bytes may hold
-pub record Held (room : ℕ) (rs : List Row) : Type 0 where
-  pub sorted : Sorted rs
-  pub fit : All RowFits rs
-  pub inside : 320 * length rs ≤ room
 
 pub none-held : (room : ℕ) → Held room []
 none-held room = record { sorted = tt; fit = tt; inside = omega arith }
@@ -35,10 +29,6 @@ none-held room = record { sorted = tt; fit = tt; inside = omega arith }
 module _ (room : ℕ) where
   pub table-length : (rs : List Row) → 320 * length rs ≤ room → length (tableOf room rs) ≡ room
   table-length rs h = dense-length rowBytes 320 length-row room rs h
-
-  -- a row is read back where it stands
-  pub row-at-place : (before : List Row) (r : Row) (after : List Row) → RowFits r → rowAt (drop (320 * length before) (tableOf room (before ++ (r ∷ after)))) ≡ r
-  row-at-place before r after f = record-back rowBytes 320 length-row rowAt RowFits row-back room before r after f
 
   -- all the rows have records
   used-all : (rs : List Row) → 320 * length rs ≤ room → usedIn (tableOf room rs) (length rs) ≡ length rs
@@ -52,13 +42,13 @@ module _ (room : ℕ) where
   -- ---- a row set
 
   set-standing : (row : Row) (rs before : List Row) (r : Row) (after : List Row) → rs ≡ before ++ (r ∷ after) → set row rs ≡ before ++ (row ∷ after) → 320 * length rs ≤ room
-      → setAt (At (length before)) (tableOf room rs) (length rs) row ≡ resultIn room rs (cond (leb (length (set row rs)) (room / 320)) (rows (set row rs)) full)
+      → setAt (At (length before)) (tableOf room rs) (length rs) row ≡ resultIn room rs (cond (leb (length (set row rs)) (room / 320)) (accepted (set row rs)) (refused 9))
   set-standing row rs before r after w e h =
       let n : length (before ++ (row ∷ after)) ≡ length rs = rw w (simp length-append) in
       rw (e, n, le-leb (length rs) (room / 320) (omega arith), n, w, dense-changed rowBytes 320 length-row room before r after row)
 
   set-missing : (row : Row) (rs before after : List Row) → rs ≡ before ++ after → set row rs ≡ before ++ (row ∷ after) → 320 * length rs ≤ room
-      → setAt (Gap (length before)) (tableOf room rs) (length rs) row ≡ resultIn room rs (cond (leb (length (set row rs)) (room / 320)) (rows (set row rs)) full)
+      → setAt (Gap (length before)) (tableOf room rs) (length rs) row ≡ resultIn room rs (cond (leb (length (set row rs)) (room / 320)) (accepted (set row rs)) (refused 9))
   unfolding insertOf
   set-missing row rs before after w e h =
       let n : length (before ++ (row ∷ after)) ≡ length rs + 1 = rw w (simp length-append (omega arith)) in
@@ -76,7 +66,7 @@ module _ (room : ℕ) where
       (λ f. rw (f, find-is (row .key) rs h, used-all rs (h .inside)) (told (placeOf compareBytes keyOf (row .key) rs) refl))
       (λ f. rw f)
     where
-      told : (p : Found) → placeOf compareBytes keyOf (row .key) rs ≡ p → setAt p (tableOf room rs) (length rs) row ≡ resultIn room rs (cond (leb (length (set row rs)) (room / 320)) (rows (set row rs)) full)
+      told : (p : Found) → placeOf compareBytes keyOf (row .key) rs ≡ p → setAt p (tableOf room rs) (length rs) row ≡ resultIn room rs (cond (leb (length (set row rs)) (room / 320)) (accepted (set row rs)) (refused 9))
       told (At k) q =
           let t = place-at compareBytes keyOf (row .key) rs k q in
           rw (← t .place) (set-standing row rs (t .before) (t .found) (t .after) (t .whole) (t .changed (λ (r : Row). row) row) (h .inside))
@@ -85,11 +75,11 @@ module _ (room : ℕ) where
           rw (← m .place) (set-missing row rs (m .before) (m .after) (m .whole) (m .inserted (λ (r : Row). row) row) (h .inside))
 
   -- what a set makes may be held again
-  pub set-held : (row : Row) (rs new : List Row) → Held room rs → setIn (room / 320) row rs ≡ rows new → Held room new
+  pub set-held : (row : Row) (rs new : List Row) → Held room rs → setIn (room / 320) row rs ≡ accepted new → Held room new
   unfolding setIn
   set-held row rs new h e = told (fits row) refl (leb (length (set row rs)) (room / 320)) refl e
     where
-      told : (f : Bool) → fits row ≡ f → (l : Bool) → leb (length (set row rs)) (room / 320) ≡ l → cond f (cond l (rows (set row rs)) full) too-long ≡ rows new → Held room new
+      told : (f : Bool) → fits row ≡ f → (l : Bool) → leb (length (set row rs)) (room / 320) ≡ l → cond f (cond l (accepted (set row rs)) (refused 9)) (refused 8) ≡ accepted new → Held room new
       told false f l m e = let z : _≡_ {A = ℕ} 0 1 = cc in absurd (omega arith)
       told true f false m e = let z : _≡_ {A = ℕ} 0 1 = cc in absurd (omega arith)
       told true f true m e =
@@ -99,16 +89,16 @@ module _ (room : ℕ) where
   -- ---- a key removed
 
   remove-standing : (key : List ℕ) (rs before : List Row) (r : Row) (after : List Row) → rs ≡ before ++ (r ∷ after) → removeKey key rs ≡ before ++ after → 320 * length rs ≤ room
-      → removeAt (At (length before)) (tableOf room rs) (length rs) ≡ changed (Rows (length (removeKey key rs))) (tableOf room (removeKey key rs))
+      → removeAt (At (length before)) (tableOf room rs) (length rs) ≡ changed (accepted (length (removeKey key rs))) (tableOf room (removeKey key rs))
   remove-standing key rs before r after w e h =
       let n : length (before ++ after) ≡ length rs - 1 = rw w (simp length-append (omega arith)) in
       rw (e, n, w, dense-removed rowBytes 320 length-row room before r after emptyBytes empty-is (rw (← w) h))
 
-  pub remove-is : (key : List ℕ) (rs : List Row) → Held room rs → removeOf (tableOf room rs) (length rs) key ≡ changed (Rows (length (removeKey key rs))) (tableOf room (removeKey key rs))
+  pub remove-is : (key : List ℕ) (rs : List Row) → Held room rs → removeOf (tableOf room rs) (length rs) key ≡ changed (accepted (length (removeKey key rs))) (tableOf room (removeKey key rs))
   unfolding removeOf removeKey
   remove-is key rs h = rw (find-is key rs h, used-all rs (h .inside)) (told (placeOf compareBytes keyOf key rs) refl)
     where
-      told : (p : Found) → placeOf compareBytes keyOf key rs ≡ p → removeAt p (tableOf room rs) (length rs) ≡ changed (Rows (length (removeKey key rs))) (tableOf room (removeKey key rs))
+      told : (p : Found) → placeOf compareBytes keyOf key rs ≡ p → removeAt p (tableOf room rs) (length rs) ≡ changed (accepted (length (removeKey key rs))) (tableOf room (removeKey key rs))
       told (At k) q =
           let t = place-at compareBytes keyOf key rs k q in
           rw (← t .place) (remove-standing key rs (t .before) (t .found) (t .after) (t .whole) (t .removed) (h .inside))

@@ -8,11 +8,12 @@ use lib.ListN.{length, take, drop}
 use lib.Seq.{sets}
 use Rattle.fields.specs.Order.{compareBytes}
 use Rattle.fields.specs.declared.bytes.Ordering.{Ordering}
+use Rattle.refusal.specs.Answer.{Answer, refused, accepted, byAnswer}
 use Rattle.records.specs.Halving.{foundIn}
 use Rattle.records.specs.declared.Found.{Found}
 use Rattle.records.specs.declared.Found.the-variants.{At, Gap}
 use Rattle.table.specs.Row.{Row, fits, rowBytes, emptyBytes, rowAt}
-use Rattle.table.specs.Table.{Result, too-long, full, rows, tableOf}
+use Rattle.table.specs.Table.{tableOf}
 use Rattle.table.specs.declared.Set.{Set}
 use Rattle.table.specs.declared.Set.the-variants.{TooLong, Full, Rows}
 
@@ -28,13 +29,22 @@ usedIn table n = min n (length table / 320)
 unfoldable pub foundOf : (table : List ℕ) → (n : ℕ) → (key : List ℕ) → Found
 foundOf table n key = foundIn (orderIn table key) (usedIn table n)
 
--- what a call gave back, with the table that it left
+-- how many rows there are after a change, or 8 or 9
+abbrev pub setAs : Set → Answer ℕ
+setAs TooLong = refused 8
+setAs Full = refused 9
+setAs (Rows n) = accepted n
+
 pub record Changed : Type 0 where
-  pub answer : Set
+  pub answer : Answer ℕ
   pub table : List ℕ
 
-abbrev pub changed : Set → List ℕ → Changed
+abbrev pub changed : Answer ℕ → List ℕ → Changed
 changed answer table = record { answer = answer; table = table }
+
+-- what a call gave back, with the table that it left
+abbrev pub changing : Set → List ℕ → Changed
+changing r table = changed (setAs r) table
 
 -- the records from k on, up to the n-th, make room for a new one
 abbrev pub insertedAt : (table : List ℕ) → (n k : ℕ) → Row → List ℕ
@@ -44,15 +54,15 @@ insertedAt table n k row =
 -- a new row, if there is a record left for it
 unfoldable pub insertOf : (table : List ℕ) → (n k : ℕ) → Row → Changed
 insertOf table n k row =
-    cond (leb (length table / 320) n) (changed Full table) (changed (Rows (n + 1)) (insertedAt table n k row))
+    cond (leb (length table / 320) n) (changed (refused 9) table) (changed (accepted (n + 1)) (insertedAt table n k row))
 
 abbrev pub setAt : Found → (table : List ℕ) → (n : ℕ) → Row → Changed
-setAt (At k) table n row = changed (Rows n) (sets table (320 * k) (rowBytes row))
+setAt (At k) table n row = changed (accepted n) (sets table (320 * k) (rowBytes row))
 setAt (Gap k) table n row = insertOf table n k row
 
 -- 8 goes before 9: a row that is too long, then a new record in a full table
 unfoldable pub setOf : (table : List ℕ) → (n : ℕ) → Row → Changed
-setOf table n row = cond (fits row) (setAt (foundOf table n (row .key)) table (usedIn table n) row) (changed TooLong table)
+setOf table n row = cond (fits row) (setAt (foundOf table n (row .key)) table (usedIn table n) row) (changed (refused 8) table)
 
 -- the records behind k close up, and the last becomes zero
 abbrev pub removedAt : (table : List ℕ) → (n k : ℕ) → List ℕ
@@ -60,8 +70,8 @@ removedAt table n k =
     sets (sets table (320 * k) (take (320 * (n - (k + 1))) (drop (320 * (k + 1)) table))) (320 * (n - 1)) emptyBytes
 
 abbrev pub removeAt : Found → (table : List ℕ) → (n : ℕ) → Changed
-removeAt (At k) table n = changed (Rows (n - 1)) (removedAt table n k)
-removeAt (Gap k) table n = changed (Rows n) table
+removeAt (At k) table n = changed (accepted (n - 1)) (removedAt table n k)
+removeAt (Gap k) table n = changed (accepted n) table
 
 -- "delete of an absent key, over-long ones too, does nothing"
 unfoldable pub removeOf : (table : List ℕ) → (n : ℕ) → (key : List ℕ) → Changed
@@ -70,7 +80,6 @@ removeOf table n key = removeAt (foundOf table n key) table (usedIn table n)
 -- ---- what a set means, in bytes
 
 -- a set that is refused leaves the rows that were there
-abbrev pub resultIn : (room : ℕ) → List Row → Result → Changed
-resultIn room old too-long = changed TooLong (tableOf room old)
-resultIn room old full = changed Full (tableOf room old)
-resultIn room old (rows new) = changed (Rows (length new)) (tableOf room new)
+abbrev pub resultIn : (room : ℕ) → List Row → Answer (List Row) → Changed
+resultIn room old answer =
+    byAnswer answer (λ number. changed (refused number) (tableOf room old)) (λ new. changed (accepted (length new)) (tableOf room new))

@@ -1,4 +1,4 @@
--- Worked examples, by computation. The keys are "a", "a." and "b".
+-- Worked examples, by computation. The keys are `a`, `a.` and `b`.
 -- Assumes nothing.
 use mathlib.Core.Path.{_≡_, refl}
 use mathlib.Core.Bool.{true, false}
@@ -7,14 +7,14 @@ use mathlib.Core.Option.{none, some}
 use lib.ListN.{replicate}
 use Rattle.fields.specs.Le.{leOf, leBytes}
 use Rattle.fields.specs.Order.{compareBytes}
+use Rattle.refusal.specs.Answer.{refused, accepted}
 use Rattle.records.specs.Dense.{dense, bytesOf}
 use Rattle.records.specs.Sorted.{recordOf, put, remove}
 use Rattle.records.specs.Halving.{foundIn, halved, halve}
 use Rattle.records.specs.declared.Found.the-variants.{At, Gap}
 use Rattle.table.specs.Row.{Row, rowOf, fits, padded, markedBytes, rowBytes, emptyBytes, rowRecordAt, rowAt}
-use Rattle.table.specs.Table.{set, removeKey, lookup, setIn, too-long, full, rows, tableOf, liveRows}
+use Rattle.table.specs.Table.{set, removeKey, lookup, setIn, tableOf, liveRows}
 use Rattle.table.specs.Change.{orderIn, foundOf, changed, insertOf, setOf, removeOf}
-use Rattle.table.specs.declared.Set.the-variants.{Full, Rows}
 
 abbrev a : Row
 a = rowOf (97 ∷ []) (1 ∷ [])
@@ -77,15 +77,15 @@ unfolding lookup recordOf compareBytes
 lookup-none = refl
 
 -- two records: a new row finds none, a row that is there is set all the same, and 8 goes before 9
-full-for-new : setIn 2 a-dot (a ∷ b ∷ []) ≡ full
+full-for-new : setIn 2 a-dot (a ∷ b ∷ []) ≡ refused 9
 unfolding setIn fits set put compareBytes
 full-for-new = refl
 
-full-not-for-old : setIn 2 b (a ∷ b ∷ []) ≡ rows (a ∷ b ∷ [])
+full-not-for-old : setIn 2 b (a ∷ b ∷ []) ≡ accepted (a ∷ b ∷ [])
 unfolding setIn fits set put compareBytes
 full-not-for-old = refl
 
-eight-before-nine : setIn 2 (rowOf (replicate 65 97) []) (a ∷ b ∷ []) ≡ too-long
+eight-before-nine : setIn 2 (rowOf (replicate 65 97) []) (a ∷ b ∷ []) ≡ refused 8
 unfolding setIn fits
 eight-before-nine = refl
 
@@ -96,21 +96,21 @@ live-ones : liveRows 3 (rowBytes a ++ (emptyBytes ++ rowBytes b)) ≡ a ∷ b �
 unfolding liveRows rowAt rowRecordAt markedBytes padded emptyBytes leBytes leOf
 live-ones = refl
 
-first-set : setOf (replicate 640 0) 0 b ≡ changed (Rows 1) (tableOf 640 (b ∷ []))
+first-set : setOf (replicate 640 0) 0 b ≡ changed (accepted 1) (tableOf 640 (b ∷ []))
 unfolding setOf insertOf foundOf foundIn halved halve fits dense bytesOf markedBytes padded leBytes
 first-set = refl
 
-set-before : setOf (tableOf 640 (b ∷ [])) 1 a ≡ changed (Rows 2) (tableOf 640 (a ∷ b ∷ []))
+set-before : setOf (tableOf 640 (b ∷ [])) 1 a ≡ changed (accepted 2) (tableOf 640 (a ∷ b ∷ []))
 unfolding setOf insertOf foundOf foundIn halved halve orderIn rowAt rowRecordAt compareBytes fits dense bytesOf markedBytes padded leBytes leOf
 set-before = refl
 
 -- a used count is worth no more than the records
-no-record : setOf [] 7 a ≡ changed Full []
+no-record : setOf [] 7 a ≡ changed (refused 9) []
 unfolding setOf insertOf foundOf foundIn halved halve fits
 no-record = refl
 
 -- nothing of the row is left
-remove-last : removeOf (tableOf 640 (a ∷ b ∷ [])) 2 (98 ∷ []) ≡ changed (Rows 1) (tableOf 640 (a ∷ []))
+remove-last : removeOf (tableOf 640 (a ∷ b ∷ [])) 2 (98 ∷ []) ≡ changed (accepted 1) (tableOf 640 (a ∷ []))
 unfolding removeOf foundOf foundIn halved halve orderIn rowAt rowRecordAt compareBytes dense bytesOf markedBytes padded leBytes leOf emptyBytes
 remove-last = refl
 

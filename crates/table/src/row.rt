@@ -31,8 +31,6 @@ pub struct RowRecord {
 
 impl RowRecord {
     pub const SIZE: usize = 320;
-    // Of 8 bytes.
-    pub const WORDS: usize = 40;
 }
 
 // Whether a row fits a record.

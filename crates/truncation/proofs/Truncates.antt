@@ -1,6 +1,6 @@
 -- The laws of truncation: the last record stays, and a sound directory stays sound.
 -- Assumes nothing.
-use mathlib.Core.Path.{_≡_, refl}
+use mathlib.Core.Path.{_≡_, refl, ap}
 use mathlib.Core.Bool.{Bool, true}
 use mathlib.Core.List.{List, [], _∷_, _++_, append-assoc}
 use Prim.Native.Nat.{ℕ, zero, suc, _+_, _-_, _*_, _<_, _≤_}
@@ -11,21 +11,21 @@ use Rattle.fields.specs.Le.{Bytes}
 use Rattle.fields.proofs.Cases.{caseB}
 use Rattle.fields.proofs.Numbers.{bytes-drop}
 use Rattle.fields.proofs.Stores.{sets-front}
-use Rattle.records.specs.Dense.{bytesOf}
+use Rattle.refusal.specs.Answer.{Answer, refused, accepted, sound}
+use Rattle.refusal.proofs.Answers.{never-both, by-cases}
+use Rattle.records.specs.Dense.{bytesOf, All}
+use Rattle.records.proofs.Dense as Dense
 use Rattle.scan.specs.Highest.{highestOf}
 use Rattle.directory.specs.Image.{segmentBytes}
 use Rattle.directory.specs.Record.{recordsOf, recordBytes}
-use Rattle.directory.specs.Rule.{afterRecord, ruleFrom, lastOf, testOf}
+use Rattle.directory.specs.Rule.{afterRecord, ruleFrom, testOf}
 use Rattle.directory.specs.declared.record.SegmentRecord.{SegmentRecord}
 use Rattle.directory.specs.declared.rule.Last.{Last}
 use Rattle.directory.specs.declared.rule.Last.the-variants.{NoSegment}
-use Rattle.directory.specs.declared.rule.Tested.{Tested}
-use Rattle.directory.specs.declared.rule.Tested.the-variants.{Sound}
-use Rattle.directory.specs.declared.rule.Tested.the-variants as Test
 use Rattle.directory.proofs.Records.{Held, record-held, record-back, length-record, length-records}
-use Rattle.directory.proofs.Rules.{rule-without, rule-keep}
+use Rattle.directory.proofs.Rules.{lastOf, rule-without, rule-keep}
 use Rattle.directory.proofs.Sound.{sound-says, sound-so}
-use Rattle.truncation.specs.Truncate.{isBelow, keptOf, closedUp, dropped, ifSound, truncateAs, truncateOf}
+use Rattle.truncation.specs.Truncate.{isBelow, keptOf, closedUp, Freed, truncateOf}
 
 -- ---- the kept records
 
@@ -63,16 +63,12 @@ module _ (area : List ℕ) (checkpoint : ℕ) where
 
 -- ---- the closed-up directory
 
-abbrev EachHeld : List SegmentRecord → Type 0
-EachHeld [] = Unit {0}
-EachHeld (r ∷ rs) = Held r × EachHeld rs
-
-records-held : (n : ℕ) (s : List ℕ) → Bytes s → EachHeld (recordsOf n s)
+records-held : (n : ℕ) (s : List ℕ) → Bytes s → All Held (recordsOf n s)
 unfolding recordsOf
 records-held zero s b = tt
 records-held (suc n) s b = (record-held s b, records-held n (drop 24 s) (bytes-drop 24 s b))
 
-kept-held : (area : List ℕ) (checkpoint : ℕ) (rs : List SegmentRecord) → EachHeld rs → EachHeld (keptOf area checkpoint rs)
+kept-held : (area : List ℕ) (checkpoint : ℕ) (rs : List SegmentRecord) → All Held rs → All Held (keptOf area checkpoint rs)
 unfolding keptOf
 kept-held area checkpoint [] h = tt
 kept-held area checkpoint (r ∷ []) h = h
@@ -81,44 +77,39 @@ kept-held area checkpoint (r ∷ q ∷ rs) h =
     (λ b. rw b (h .0, kept-held area checkpoint (q ∷ rs) (h .1)))
 
 -- records that were written are read back, whatever stands after them
-records-back : (rs : List SegmentRecord) (rest : List ℕ) → EachHeld rs → recordsOf (length rs) (bytesOf recordBytes rs ++ rest) ≡ rs
+records-back : (rs : List SegmentRecord) (rest : List ℕ) → All Held rs → recordsOf (length rs) (bytesOf recordBytes rs ++ rest) ≡ rs
 unfolding recordsOf bytesOf
 records-back [] rest h = refl
 records-back (r ∷ rs) rest h =
     let s = bytesOf recordBytes rs ++ rest in
     rw (append-assoc (recordBytes r) (bytesOf recordBytes rs) rest, record-back r s (h .0), drop-at (recordBytes r) s 24 (length-record r), records-back rs rest (h .1))
 
-length-records-bytes : (rs : List SegmentRecord) → length (bytesOf recordBytes rs) ≡ 24 * length rs
-unfolding bytesOf
-length-records-bytes [] = refl
-length-records-bytes (r ∷ rs) = rw (length-append, length-record) (omega (arith, length-records-bytes rs))
-
 closed-length : (d : List ℕ) (used : ℕ) (rs : List SegmentRecord) → length (closedUp d used rs) ≡ length d
 unfolding closedUp
 closed-length d used rs = simp length-sets
 
-closed-reads : (d : List ℕ) (used : ℕ) (rs : List SegmentRecord) → length rs ≤ used → 24 * used ≤ length d → EachHeld rs → recordsOf (length rs) (closedUp d used rs) ≡ rs
+closed-reads : (d : List ℕ) (used : ℕ) (rs : List SegmentRecord) → length rs ≤ used → 24 * used ≤ length d → All Held rs → recordsOf (length rs) (closedUp d used rs) ≡ rs
 unfolding closedUp
 closed-reads d used rs m l h =
     let b = bytesOf recordBytes rs in
     let z = replicate {A = ℕ} (24 * (used - length rs)) 0 in
-    let n : length (b ++ z) ≤ length d = simp (length-append, length-replicate) (omega (arith, length-records-bytes rs)) in
+    let n : length (b ++ z) ≤ length d = simp (length-append, length-replicate) (omega (arith, Dense.length-records recordBytes 24 length-record rs)) in
     rw (sets-front d (b ++ z) n, append-assoc b z (drop (length (b ++ z)) d)) (records-back rs _ h)
 
-module _ (area d : List ℕ) (used checkpoint : ℕ) (bytes : Bytes d) (sound : testOf (length area) d used ≡ Sound) where
+module _ (area d : List ℕ) (used checkpoint : ℕ) (bytes : Bytes d) (s : testOf (length area) d used ≡ sound) where
   most : length (keptOf area checkpoint (recordsOf used d)) ≤ used
   most = omega (arith, kept-most area checkpoint (recordsOf used d), length-records used d)
 
   -- they are what is read after the call
   pub kept-reads : (let ks = keptOf area checkpoint (recordsOf used d) in recordsOf (length ks) (closedUp d used ks) ≡ ks)
   kept-reads =
-      closed-reads d used (keptOf area checkpoint (recordsOf used d)) most (sound-says (length area) d used sound .used)
+      closed-reads d used (keptOf area checkpoint (recordsOf used d)) most (sound-says (length area) d used s .used)
       (kept-held area checkpoint (recordsOf used d) (records-held used d bytes))
 
-  closed-sound : (let ks = keptOf area checkpoint (recordsOf used d) in testOf (length area) (closedUp d used ks) (length ks) ≡ Sound)
+  closed-sound : (let ks = keptOf area checkpoint (recordsOf used d) in testOf (length area) (closedUp d used ks) (length ks) ≡ sound)
   closed-sound =
       let ks = keptOf area checkpoint (recordsOf used d) in
-      let t = sound-says (length area) d used sound in
+      let t = sound-says (length area) d used s in
       let n : length (closedUp d used ks) ≡ length d = closed-length d used ks in
       sound-so (length area) (closedUp d used ks) (length ks)
       (record {
@@ -130,13 +121,14 @@ module _ (area d : List ℕ) (used checkpoint : ℕ) (bytes : Bytes d) (sound : 
       })
 
 -- after a truncation that isn't refused, the directory passes the test with the used count that was answered
-pub truncate-sound : (area d : List ℕ) (used checkpoint count left : ℕ) → Bytes d → truncateOf area d used checkpoint .answer ≡ dropped count left → testOf (length area) (truncateOf area d used checkpoint .directory) left ≡ Sound
+pub truncate-sound : (area d : List ℕ) (used checkpoint : ℕ) (f : Freed) → Bytes d → truncateOf area d used checkpoint .answer ≡ accepted f → testOf (length area) (truncateOf area d used checkpoint .directory) (f .used) ≡ sound
 unfolding truncateOf
-truncate-sound area d used checkpoint count left bytes e = told (testOf (length area) d used) refl e
+truncate-sound area d used checkpoint f bytes e =
+    by-cases (testOf (length area) d used) (λ n q. never-both (rw q at e))
+    (λ x q.
+    let n : length (keptOf area checkpoint (recordsOf used d)) ≡ f .used = ap (λ (a : Answer Freed). usedOf a) (rw q at e) in
+    rw (q, ← n) (closed-sound area d used checkpoint bytes q))
   where
-    ks : List SegmentRecord
-    ks = keptOf area checkpoint (recordsOf used d)
-
-    told : (t : Tested) → testOf (length area) d used ≡ t → ifSound t d (truncateAs d used ks) .answer ≡ dropped count left → testOf (length area) (ifSound t d (truncateAs d used ks) .directory) left ≡ Sound
-    told (Test.Refused refusal) s e = let z : _≡_ {A = ℕ} 0 1 = cc in absurd (omega arith)
-    told Sound s e = let n : length ks ≡ left = cc in rw (← n) (closed-sound area d used checkpoint bytes s)
+    usedOf : Answer Freed → ℕ
+    usedOf (refused number) = 0
+    usedOf (accepted f) = f .used

@@ -4,6 +4,7 @@ use mathlib.Core.Path.{_≡_, refl}
 use mathlib.Core.List.{List, [], _∷_, _++_, map}
 use Prim.Native.Nat.{ℕ}
 use lib.ListN.{length, take, replicate, set}
+use Rattle.refusal.specs.Answer.{refused, accepted}
 use Rattle.fields.specs.Le.{leOf, leBytes}
 use Rattle.crc32.specs.Crc.{bitStep, bitSteps, byteStep, register, crc32Of}
 use Rattle.header.specs.Header.{headerOf, headerBytes, entryBytes, headerAt, validFor}
@@ -19,7 +20,7 @@ use Rattle.directory.specs.Lent.{fitsOf}
 use Rattle.directory.specs.Record.{recordAt, recordBytes, recordsOf}
 use Rattle.directory.specs.Rule.{liesOf, followsOf, ruleFrom, directoryRule, testOf}
 use Rattle.directory.specs.declared.record.SegmentRecord.{SegmentRecord}
-use Rattle.truncation.specs.Truncate.{keptOf, closedUp, refused, dropped, truncateOf}
+use Rattle.truncation.specs.Truncate.{keptOf, closedUp, truncateOf}
 
 abbrev at : (id start length : ℕ) → SegmentRecord
 at id start length = record { id = id; start = start; length = length }
@@ -52,20 +53,20 @@ by-checkpoint = refl
 directory : List ℕ
 directory = recordBytes first ++ (recordBytes second ++ (recordBytes last ++ recordBytes (at 9 9 9)))
 
-one-dropped : truncateOf three directory 3 6 ≡ record { answer = dropped 1 2; directory = recordBytes second ++ (recordBytes last ++ (replicate 24 0 ++ recordBytes (at 9 9 9))) }
+one-dropped : truncateOf three directory 3 6 ≡ record { answer = accepted (record { count = 1; used = 2 }); directory = recordBytes second ++ (recordBytes last ++ (replicate 24 0 ++ recordBytes (at 9 9 9))) }
 unfolding three directory commits entryBytes payloadOf fixedBytes headerBytes headerOf leBytes keptOf segmentBytes highestOf highestFrom walkFrom walk stepFrom judgeOf headerAt validFor leOf crc32Of register byteStep bitSteps bitStep decodeOf byKind truncateOf testOf fitsOf directoryRule ruleFrom followsOf liesOf recordsOf recordAt recordBytes closedUp bytesOf
 one-dropped = refl
 
-two-dropped : truncateOf three directory 3 9 ≡ record { answer = dropped 2 1; directory = recordBytes last ++ (replicate 48 0 ++ recordBytes (at 9 9 9)) }
+two-dropped : truncateOf three directory 3 9 ≡ record { answer = accepted (record { count = 2; used = 1 }); directory = recordBytes last ++ (replicate 48 0 ++ recordBytes (at 9 9 9)) }
 unfolding three directory commits entryBytes payloadOf fixedBytes headerBytes headerOf leBytes keptOf segmentBytes highestOf highestFrom walkFrom walk stepFrom judgeOf headerAt validFor leOf crc32Of register byteStep bitSteps bitStep decodeOf byKind truncateOf testOf fitsOf directoryRule ruleFrom followsOf liesOf recordsOf recordAt recordBytes closedUp bytesOf
 two-dropped = refl
 
-none-dropped : truncateOf three directory 3 0 ≡ record { answer = dropped 0 3; directory = directory }
+none-dropped : truncateOf three directory 3 0 ≡ record { answer = accepted (record { count = 0; used = 3 }); directory = directory }
 unfolding three directory commits entryBytes payloadOf fixedBytes headerBytes headerOf leBytes keptOf segmentBytes highestOf highestFrom walkFrom walk stepFrom judgeOf headerAt validFor leOf crc32Of register byteStep bitSteps bitStep decodeOf byKind truncateOf testOf fitsOf directoryRule ruleFrom followsOf liesOf recordsOf recordAt recordBytes closedUp bytesOf
 none-dropped = refl
 
 -- a directory of no used records
-none-used : truncateOf [] directory 0 9 ≡ record { answer = dropped 0 0; directory = directory }
+none-used : truncateOf [] directory 0 9 ≡ record { answer = accepted (record { count = 0; used = 0 }); directory = directory }
 unfolding directory truncateOf testOf fitsOf directoryRule ruleFrom recordsOf recordBytes leBytes keptOf closedUp bytesOf
 none-used = refl
 

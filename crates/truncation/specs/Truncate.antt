@@ -8,15 +8,13 @@ use lib.Dec.{ltb}
 use lib.ListN.{length, replicate}
 use lib.Seq.{sets}
 use Rattle.refusal.specs.Number.{numberOf}
+use Rattle.refusal.specs.Answer.{Answer, refused, accepted, byAnswer}
 use Rattle.records.specs.Dense.{bytesOf}
 use Rattle.scan.specs.Highest.{highestOf}
 use Rattle.directory.specs.Image.{segmentBytes}
 use Rattle.directory.specs.Record.{recordsOf, recordBytes}
 use Rattle.directory.specs.Rule.{testOf}
 use Rattle.directory.specs.declared.record.SegmentRecord.{SegmentRecord}
-use Rattle.directory.specs.declared.rule.Tested.{Tested}
-use Rattle.directory.specs.declared.rule.Tested.the-variants.{Sound}
-use Rattle.directory.specs.declared.rule.Tested.the-variants as Test
 use Rattle.truncation.specs.declared.Truncated.{Truncated}
 use Rattle.truncation.specs.declared.Truncated.the-variants as Truncates
 
@@ -38,17 +36,17 @@ keptOf area checkpoint (r ∷ q ∷ rs) =
 unfoldable pub closedUp : List ℕ → (used : ℕ) → List SegmentRecord → List ℕ
 closedUp directory used kept = sets directory 0 (bytesOf recordBytes kept ++ replicate (24 * (used - length kept)) 0)
 
--- document 01's number, or how many were dropped and the new used count
-pub data Answer : Type 0 where
-  refused : (number : ℕ) → Answer
-  dropped : (count used : ℕ) → Answer
+-- how many were dropped, and the new used count
+pub record Freed : Type 0 where
+  pub count : ℕ
+  pub used : ℕ
 
-abbrev pub truncatedAs : Truncated → Answer
+abbrev pub truncatedAs : Truncated → Answer Freed
 truncatedAs (Truncates.Refused refusal) = refused (numberOf refusal)
-truncatedAs (Truncates.Dropped count used) = dropped count used
+truncatedAs (Truncates.Dropped count used) = accepted (record { count = count; used = used })
 
 pub record Truncating : Type 0 where
-  pub answer : Answer
+  pub answer : Answer Freed
   pub directory : List ℕ
 
 -- what a call gave back, with the directory that it left
@@ -56,16 +54,15 @@ abbrev pub truncating : Truncated → List ℕ → Truncating
 truncating r directory = record { answer = truncatedAs r; directory = directory }
 
 -- "and the answer is their number"
-abbrev pub truncateAs : List ℕ → (used : ℕ) → (kept : List SegmentRecord) → Truncating
-truncateAs directory used kept =
-    record { answer = dropped (used - length kept) (length kept); directory = closedUp directory used kept }
+abbrev pub truncateTo : (kept : List SegmentRecord) → List ℕ → (used : ℕ) → Truncating
+truncateTo kept directory used =
+    record {
+      answer = accepted (record { count = used - length kept; used = length kept });
+      directory = closedUp directory used kept;
+    }
 
 -- "Every refusal leaves the directory .. unchanged."
-abbrev pub ifSound : Tested → List ℕ → Truncating → Truncating
-ifSound (Test.Refused refusal) directory truncated = truncating (Truncates.Refused refusal) directory
-ifSound Sound directory truncated = truncated
-
-unfoldable pub truncateOf : (area : List ℕ) → List ℕ → (used checkpoint : ℕ) → Truncating
+unfoldable pub truncateOf : (area directory : List ℕ) → (used checkpoint : ℕ) → Truncating
 truncateOf area directory used checkpoint =
-    ifSound (testOf (length area) directory used) directory
-    (truncateAs directory used (keptOf area checkpoint (recordsOf used directory)))
+    byAnswer (testOf (length area) directory used) (λ number. record { answer = refused number; directory = directory })
+    (λ _. truncateTo (keptOf area checkpoint (recordsOf used directory)) directory used)

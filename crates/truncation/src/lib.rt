@@ -1,19 +1,17 @@
 // Truncation by checkpoint.
 use directory::record::SegmentRecord;
 use directory::rule::Tested;
-use entry::Place;
 use refusal::Refusal;
 use scan::Step;
 ghost use mathlib.Core.Path.{_≡_};
 ghost use mathlib.Core.Bool.{false, cond};
-ghost use Prim.Native.Nat.{max, _≤_};
+ghost use Prim.Native.Nat.{_≤_};
 ghost use lib.ListN.{length};
-ghost use Rattle.scan.specs.Walk.{behind};
-ghost use Rattle.scan.specs.Highest.{onHighest, highestOf};
+ghost use Rattle.refusal.specs.Answer.{sound};
+ghost use Rattle.scan.specs.Highest.{highestOf};
 ghost use Rattle.directory.specs.Image.{segmentBytes};
 ghost use Rattle.directory.specs.Record.{endOf, recordsOf};
 ghost use Rattle.directory.specs.Rule.{testOf};
-ghost use Rattle.directory.specs.declared.rule.Tested.the-variants.{Sound};
 ghost use Rattle.truncation.specs.Truncate.{isBelow, keptOf, closedUp, truncating, truncateOf};
 
 // How many segments were dropped, and the used count after the call.
@@ -22,56 +20,25 @@ pub enum Truncated {
     Dropped { count: usize, used: usize },
 }
 
-fn higher(a: u64, b: u64) -> u64
-    ensures { λ r. ⌜ r ≡ max a b ⌝ }
-{
-    if a < b { b } else { a }
-}
-
-// The entry's number, 0 where there is no entry.
-fn tx_id_of(step: Step) -> u64
-    ensures { λ r. ⌜ r ≡ onHighest step 0 ⌝ }
-{
-    match step {
-        Step::Entry { entry, .. } => entry.tx_id(),
-        Step::Undecodable { .. } => 0,
-        Step::End => 0,
-        Step::Torn => 0,
-        Step::WrongChecksum => 0,
-    }
-}
-
-// The place behind which the scan goes on, `end` where it is over: "That scan stops at a partial write or wrong checksum
-// but passes over an undecodable payload."
-fn passed(step: Step, end: Place) -> Place
-    ensures { λ r. ⌜ r ≡ behind step end (λ p. p) ⌝ }
-{
-    match step {
-        Step::Entry { payload, .. } => payload,
-        Step::Undecodable { payload } => payload,
-        Step::End => end,
-        Step::Torn => end,
-        Step::WrongChecksum => end,
-    }
-}
-
-// The highest number of a segment, 0 where there is none.
+// The highest number of a segment, 0 where there is none: "That scan stops at a partial write or wrong checksum but passes
+// over an undecodable payload."
 fn read_segment_max_tx_id(segment: &[u8]) -> u64
     ensures { λ r. ⌜ r ≡ highestOf (now (segment .entry)) ⌝ }
 {
-    let end = Place {
-        start: segment.len(),
-        len: 0,
-    };
     let mut max_tx_id = 0;
     let mut at = 0;
-    while at < segment.len() {
-        let step = scan::scan_step(segment, at);
-        max_tx_id = higher(max_tx_id, tx_id_of(step));
-        let payload = passed(step, end);
-        at = payload.start + payload.len;
+    loop {
+        match scan::scan_step(segment, at) {
+            Step::Entry { entry, payload } => {
+                max_tx_id = fields::higher(max_tx_id, entry.tx_id());
+                at = payload.start + payload.len;
+            }
+            Step::Undecodable { payload } => at = payload.start + payload.len,
+            Step::End => return max_tx_id,
+            Step::Torn => return max_tx_id,
+            Step::WrongChecksum => return max_tx_id,
+        }
     }
-    max_tx_id
 }
 
 // "0 < m < checkpoint"
@@ -100,7 +67,7 @@ fn is_dropped(area: &[u8], segment: SegmentRecord, last: bool, checkpoint: u64) 
 // "The kept records close up in order, the freed ones become zero": how many are kept. A record's new place is never behind
 // its old one, so the records that are still to be read stand as they were.
 fn close_up(area: &[u8], directory: &mut [u8], used: usize, checkpoint: u64) -> usize
-    requires { ⌜ testOf (length (now area)) (now directory) used ≡ Sound ⌝ }
+    requires { ⌜ testOf (length (now area)) (now directory) used ≡ sound ⌝ }
     ensures { λ r. ⌜ (let kept = keptOf (now (area .entry)) checkpoint (recordsOf used (now (directory .entry))) in (r ≡ length kept) × (now (directory .exit) ≡ closedUp (now (directory .entry)) used kept)) ⌝ }
 {
     let mut kept = 0;

@@ -118,7 +118,3 @@ whole rest bs all o e = subst Octets e o
 pub grammar : (bs : List ℕ) → (isUtf8 bs ≡ true) ↔ Octets bs
 unfolding isUtf8
 grammar bs = (λ e. let w = ended bs [] e in whole (w .rest) bs (w .within) (w .octets) (w .joined), completed)
-
-pub utf8-empty : isUtf8 [] ≡ true
-unfolding isUtf8 completes
-utf8-empty = refl

@@ -36,7 +36,7 @@ array-share-prefix-written c =
     let s = c .before .before .before .before .segment-name in
     let h : length (nameOf (a .id)) ≤ 28 = name-length (a .id) (omega arith) in
     let e : c .before .n .given .0 .0 ≡ length (nameOf (a .id)) = written-count (a .id) _ _ _ (s .ensures) h _ (c .before .n .given .1) in
-    omega (arith, written-length (a .id) _ _ _ (s .ensures) h)
+    omega (arith, written-length (a .id) _ (s .result) _ (s .ensures) h)
 
 slice-aggregate-same : tie.Need-slice-aggregate-same
 slice-aggregate-same c = sym (length-take-le _ _ (array-share-prefix-written (c .before)))
@@ -50,7 +50,7 @@ returns-2 c =
     let s = c .before .before .before .before .before .before .segment-name in
     let h : length (nameOf (a .id)) ≤ 28 = name-length (a .id) (omega arith) in
     let e : c .before .before .before .n .given .0 .0 ≡ length (nameOf (a .id)) = written-count (a .id) _ _ _ (s .ensures) h _ (c .before .before .before .n .given .1) in
-    c .same .ensures ∙ ap (sameBytes (a .name .now)) (ap (λ m. take m (s .last .1 .0)) e ∙ written-bytes (a .id) _ _ _ (s .ensures) h)
+    c .same .ensures ∙ ap (sameBytes (a .name .now)) (ap (λ m. take m (s .last .1 .0)) e ∙ written-bytes (a .id) _ (s .result) _ (s .ensures) h)
 
 pub is-kept-spec : {M : Type 1} → statement M
 is-kept-spec =

@@ -8,6 +8,9 @@ use borrow.Author.Needs.{needs}
 use Rattle.payload.proofs.put_three.Statement.{statement}
 use Rattle.payload.proofs.put_three.Tie as tie
 
+mul-n : tie.Need-mul-n
+mul-n c = search needs
+
 add-n : tie.Need-add-n
 add-n c = search needs
 
@@ -16,6 +19,9 @@ add-n-2 c = search needs
 
 add-n-3 : tie.Need-add-n-3
 add-n-3 c = search needs
+
+add-n-4 : tie.Need-add-n-4
+add-n-4 c = search needs
 
 returns : tie.Need-returns
 returns c = put-nothing _ _ (simp (length-append, length-fixed, length-part) (omega arith))
@@ -50,9 +56,11 @@ pub put-three-spec : {M : Type 1} → statement M
 put-three-spec =
     tie.close
     (tie.spec
+    mul-n
     add-n
     add-n-2
     add-n-3
+    add-n-4
     returns
     put-fixed-requires
     put-part-requires

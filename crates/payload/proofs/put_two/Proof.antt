@@ -8,11 +8,17 @@ use borrow.Author.Needs.{needs}
 use Rattle.payload.proofs.put_two.Statement.{statement}
 use Rattle.payload.proofs.put_two.Tie as tie
 
+mul-n : tie.Need-mul-n
+mul-n c = search needs
+
 add-n : tie.Need-add-n
 add-n c = search needs
 
 add-n-2 : tie.Need-add-n-2
 add-n-2 c = search needs
+
+add-n-3 : tie.Need-add-n-3
+add-n-3 c = search needs
 
 returns : tie.Need-returns
 returns c = put-nothing _ _ (simp (length-append, length-fixed, length-part) (omega arith))
@@ -41,8 +47,10 @@ pub put-two-spec : {M : Type 1} → statement M
 put-two-spec =
     tie.close
     (tie.spec
+    mul-n
     add-n
     add-n-2
+    add-n-3
     returns
     put-fixed-requires
     put-part-requires

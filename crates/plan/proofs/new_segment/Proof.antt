@@ -1,6 +1,7 @@
 -- `new_segment` meets its contract: refusals 1 and 2 go first, and then what `next` says of the last used record.
 -- Assumes nothing.
-use mathlib.Core.Path.{sym, _∙_}
+use mathlib.Core.Path.{ap, sym, _∙_}
+use Rattle.directory.specs.Rule.{testedAs}
 use Rattle.plan.specs.Plan.{newSegmentOf}
 use borrow.Author.Needs.{needs}
 use Rattle.plan.proofs.new_segment.Statement.{statement}
@@ -16,7 +17,7 @@ enum-told : tie.Need-enum-told
 enum-told c = search needs
 
 last-used-requires : tie.Need-last-used-requires
-last-used-requires c κs = sym (c .before .before .test .ensures) ∙ c .enum-told .given .1
+last-used-requires c κs = sym (c .before .before .test .ensures) ∙ ap testedAs (c .enum-told .given .1)
 
 next-requires : tie.Need-next-requires
 next-requires c κs = search needs

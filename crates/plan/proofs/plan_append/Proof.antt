@@ -1,6 +1,7 @@
 -- `plan_append` meets its contract: refused by the test, or else the plan of the tested.
 -- Assumes nothing.
-use mathlib.Core.Path.{sym, _∙_}
+use mathlib.Core.Path.{ap, sym, _∙_}
+use Rattle.directory.specs.Rule.{testedAs}
 use Rattle.plan.specs.Plan.{planAppendOf}
 use Rattle.plan.proofs.Plans.{test-says}
 use borrow.Author.Needs.{needs}
@@ -17,7 +18,7 @@ enum-told : tie.Need-enum-told
 enum-told c = search needs
 
 plan-tested-requires : tie.Need-plan-tested-requires
-plan-tested-requires c κs = test-says _ _ _ (sym (c .before .before .append-test .ensures) ∙ c .enum-told .given .1)
+plan-tested-requires c κs = test-says _ _ _ (sym (c .before .before .append-test .ensures) ∙ ap testedAs (c .enum-told .given .1))
 
 returns : tie.Need-returns
 unfolding planAppendOf

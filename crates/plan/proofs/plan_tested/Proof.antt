@@ -4,7 +4,7 @@ use mathlib.Core.Path.{ap, sym, _∙_}
 use native.Mathlib.Omega.{arith}
 use borrow.Author.Tests.{le-leb, lt-leb}
 use Rattle.directory.specs.Record.{endOf}
-use Rattle.plan.specs.Plan.{planOf}
+use Rattle.plan.specs.Plan.{newSegmentAs, planOf}
 use Rattle.plan.proofs.Plans.{last-in, new-end}
 use borrow.Author.Needs.{needs}
 use Rattle.plan.proofs.plan_tested.Statement.{statement}
@@ -41,7 +41,7 @@ enum-known-segment c = search needs
 behind-requires-2 : tie.Need-behind-requires-2
 behind-requires-2 c κs =
     let r = c .before .before .before .before .before .before .before .record-at in
-    omega (arith, new-end (r .result) _ _ _ (sym (c .before .before .before .next .ensures) ∙ c .before .segment .given .1), ap endOf (r .ensures), last-in _ _ (omega arith) _ (c .before .before .before .before .before .before .before .before .before .pre .0))
+    omega (arith, new-end (r .result) _ _ _ (sym (c .before .before .before .next .ensures) ∙ ap newSegmentAs (c .before .segment .given .1)), ap endOf (r .ensures), last-in _ _ (omega arith) _ (c .before .before .before .before .before .before .before .before .before .pre .0))
 
 returns-2 : tie.Need-returns-2
 unfolding planOf

@@ -3,8 +3,7 @@
 use mathlib.Core.Path.{ap, sym, _∙_}
 use native.Mathlib.Omega.{arith}
 use Rattle.fields.proofs.Cases.{tests}
-use Rattle.directory.specs.Rule.{newSegment}
-use Rattle.plan.specs.Plan.{noNextId}
+use Rattle.plan.specs.Plan.{newSegment, noNextId}
 use borrow.Author.Needs.{needs}
 use Rattle.plan.proofs.segment_after.Statement.{statement}
 use Rattle.plan.proofs.segment_after.Tie as tie

@@ -1,6 +1,6 @@
 -- `concluded` meets its contract: by the list that is full, if any.
 -- Assumes nothing.
-use Rattle.recovery.specs.Reach.{recoveredBy, concludedOf}
+use Rattle.recovery.specs.Reach.{toldBy, concludedOf}
 use borrow.Author.Needs.{needs}
 use Rattle.recovery.proofs.concluded.Statement.{statement}
 use Rattle.recovery.proofs.concluded.Tie as tie
@@ -27,7 +27,7 @@ same-length : tie.Need-same-length
 same-length c = search needs
 
 returns : tie.Need-returns
-unfolding concludedOf recoveredBy
+unfolding concludedOf toldBy
 returns c = rw (c .before .before .enum-told .given .1, ← c .results .ensures)
 
 same-length-2 : tie.Need-same-length-2

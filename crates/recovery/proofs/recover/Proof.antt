@@ -1,6 +1,7 @@
 -- `recover` meets its contract: refused by the tests, or the log is read.
 -- Assumes nothing.
-use mathlib.Core.Path.{sym, _∙_}
+use mathlib.Core.Path.{ap, sym, _∙_}
+use Rattle.directory.specs.Rule.{testedAs}
 use Rattle.recovery.specs.Recover.{recoverOf}
 use Rattle.recovery.proofs.Concludes.{lists-sound}
 use borrow.Author.Needs.{needs}
@@ -17,7 +18,7 @@ enum-told : tie.Need-enum-told
 enum-told c = search needs
 
 recover-tested-requires : tie.Need-recover-tested-requires
-recover-tested-requires c κs = lists-sound _ _ _ _ _ (sym (c .before .before .before .before .lists-test .ensures) ∙ c .before .before .enum-told .given .1)
+recover-tested-requires c κs = lists-sound _ _ _ _ _ (sym (c .before .before .before .before .lists-test .ensures) ∙ ap testedAs (c .before .before .enum-told .given .1))
 
 returns : tie.Need-returns
 unfolding recoverOf

@@ -1,6 +1,6 @@
 -- `results` meets its contract: the counts and the next number of what was reached.
 -- Assumes nothing.
-use Rattle.recovery.specs.Reach.{recoveredBy}
+use Rattle.recovery.specs.Reach.{toldBy}
 use borrow.Author.Needs.{needs}
 use Rattle.recovery.proofs.results.Statement.{statement}
 use Rattle.recovery.proofs.results.Tie as tie
@@ -12,7 +12,7 @@ next-number-requires : tie.Need-next-number-requires
 next-number-requires c κs = search needs
 
 returns : tie.Need-returns
-unfolding recoveredBy
+unfolding toldBy
 returns c = rw (c .next-number .ensures, c .before .stats .ensures)
 
 pub results-spec : {M : Type 1} → statement M

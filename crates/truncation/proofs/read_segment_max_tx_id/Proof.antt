@@ -6,16 +6,17 @@ use Prim.Native.Nat.{max, _-_}
 use native.Mathlib.Omega.{arith}
 use lib.ListN.{length}
 use Rattle.scan.specs.Highest.{highestFrom, highestOf}
-use Rattle.truncation.proofs.Scans.{highest-past, Passing, passing}
+use Rattle.scan.proofs.Walks.{highest-wrong, highest-partial, highest-end}
+use Rattle.truncation.proofs.Scans.{passing-entry, passing-undecodable}
 use borrow.Author.Needs.{needs}
 use Rattle.truncation.proofs.read_segment_max_tx_id.Statement.{statement}
 use Rattle.truncation.proofs.read_segment_max_tx_id.Tie as tie
 
 abbrev Inv-loop : tie.InvT-loop
-Inv-loop segment end max-tx-id₀ at₀ max-tx-id at = max max-tx-id (highestFrom segment at) ≡ highestOf segment
+Inv-loop segment max-tx-id₀ at₀ max-tx-id at = max max-tx-id (highestFrom segment at) ≡ highestOf segment
 
 abbrev μ-loop : tie.MeasureT-loop
-μ-loop segment end max-tx-id₀ at₀ max-tx-id at = length segment - at
+μ-loop segment max-tx-id₀ at₀ max-tx-id at = length segment - at
 
 loop-holds : tie.Need-loop-holds Inv-loop μ-loop
 unfolding highestOf
@@ -24,36 +25,55 @@ loop-holds c = omega arith
 scan-step-requires : tie.Need-scan-step-requires Inv-loop μ-loop
 scan-step-requires c κs = search needs
 
-tx-id-of-requires : tie.Need-tx-id-of-requires Inv-loop μ-loop
-tx-id-of-requires c κs = search needs
+enum-known-entry : tie.Need-enum-known-entry Inv-loop μ-loop
+enum-known-entry c = search needs
+
+tx-id-requires : tie.Need-tx-id-requires Inv-loop μ-loop
+tx-id-requires c κs = search needs
 
 higher-requires : tie.Need-higher-requires Inv-loop μ-loop
 higher-requires c κs = search needs
 
-passed-requires : tie.Need-passed-requires Inv-loop μ-loop
-passed-requires c κs = search needs
-
-passes : (c : tie.After-passed Inv-loop μ-loop) → (let a = c .before .before .before .before .before .before .before .args in let l = c .before .before .before .before .before .loop in Passing (a .segment .now) (l .at) (l .max-tx-id) (c .before .before .before .scan-step .result) (c .passed .result))
-passes c =
-    let a = c .before .before .before .before .before .before .before .args in
-    let l = c .before .before .before .before .before .loop in
-    let x = c .before .before .before .scan-step .result in
-    rw (c .passed .ensures) (passing (a .segment .now) (l .at) (l .max-tx-id) (record { start = length (a .segment .now); len = 0 }) (omega arith) (omega arith) x (sym (c .before .before .before .scan-step .ensures)))
-
 add-at : tie.Need-add-at Inv-loop μ-loop
-add-at c = omega (arith, passes (c .before))
+add-at c = omega (arith, passing-entry _ _ _ _ (sym (c .before .before .before .before .before .before .scan-step .ensures) ∙ c .before .before .before .before .entry .given .1) .end)
 
 loop-less : tie.Need-loop-less Inv-loop μ-loop
-loop-less c = omega (arith, passes (c .before))
+loop-less c = let t = passing-entry _ _ _ _ (sym (c .before .before .before .before .before .before .scan-step .ensures) ∙ c .before .before .before .before .entry .given .1) in omega (arith, t .on, t .end)
 
 loop-again : tie.Need-loop-again Inv-loop μ-loop
-loop-again c = rw (c .before .before .higher .ensures, c .before .before .before .tx-id-of .ensures) (passes (c .before) .same ∙ c .before .before .before .before .before .before .loop .inv)
+loop-again c =
+    let t = passing-entry _ _ _ _ (sym (c .before .before .before .before .before .before .scan-step .ensures) ∙ c .before .before .before .before .entry .given .1) in
+    omega (arith, t .same, c .before .higher .ensures, c .before .before .tx-id .ensures, c .before .before .before .before .before .before .before .loop .inv)
+
+enum-known-payload : tie.Need-enum-known-payload Inv-loop μ-loop
+enum-known-payload c = search needs
+
+add-at-2 : tie.Need-add-at-2 Inv-loop μ-loop
+add-at-2 c = omega (arith, passing-undecodable _ _ _ (sym (c .before .before .before .before .scan-step .ensures) ∙ c .before .before .payload .given .1) .end)
+
+loop-less-2 : tie.Need-loop-less-2 Inv-loop μ-loop
+loop-less-2 c = let t = passing-undecodable _ _ _ (sym (c .before .before .before .before .scan-step .ensures) ∙ c .before .before .payload .given .1) in omega (arith, t .on, t .end)
+
+loop-again-2 : tie.Need-loop-again-2 Inv-loop μ-loop
+loop-again-2 c = let t = passing-undecodable _ _ _ (sym (c .before .before .before .before .scan-step .ensures) ∙ c .before .before .payload .given .1) in omega (arith, t .same, c .before .before .before .before .before .loop .inv)
+
+enum-told : tie.Need-enum-told Inv-loop μ-loop
+enum-told c = search needs
 
 returns : tie.Need-returns Inv-loop μ-loop
-returns c =
-    let a = c .before .before .before .args in
-    let l = c .before .loop in
-    omega (arith, highest-past (a .segment .now) (l .at) (omega arith))
+returns c = omega (arith, highest-end _ _ (sym (c .before .before .scan-step .ensures) ∙ c .enum-told .given .1), c .before .before .before .loop .inv)
+
+enum-told-2 : tie.Need-enum-told-2 Inv-loop μ-loop
+enum-told-2 c = search needs
+
+returns-2 : tie.Need-returns-2 Inv-loop μ-loop
+returns-2 c = omega (arith, highest-partial _ _ (sym (c .before .before .scan-step .ensures) ∙ c .enum-told2 .given .1), c .before .before .before .loop .inv)
+
+enum-told-3 : tie.Need-enum-told-3 Inv-loop μ-loop
+enum-told-3 c = search needs
+
+returns-3 : tie.Need-returns-3 Inv-loop μ-loop
+returns-3 c = omega (arith, highest-wrong _ _ (sym (c .before .before .scan-step .ensures) ∙ c .enum-told3 .given .1), c .before .before .before .loop .inv)
 
 pub read-segment-max-tx-id-spec : {M : Type 1} → statement M
 read-segment-max-tx-id-spec =
@@ -63,10 +83,19 @@ read-segment-max-tx-id-spec =
     μ-loop
     loop-holds
     scan-step-requires
-    tx-id-of-requires
+    enum-known-entry
+    tx-id-requires
     higher-requires
-    passed-requires
     add-at
     loop-less
     loop-again
-    returns)
+    enum-known-payload
+    add-at-2
+    loop-less-2
+    loop-again-2
+    enum-told
+    returns
+    enum-told-2
+    returns-2
+    enum-told-3
+    returns-3)

@@ -1,8 +1,9 @@
 -- `truncate_segments_before` meets its contract: a refusal changes nothing, else the directory is closed up.
 -- Assumes nothing.
-use mathlib.Core.Path.{sym, _∙_}
+use mathlib.Core.Path.{ap, sym, _∙_}
 use native.Mathlib.Omega.{arith}
 use Rattle.directory.specs.Record.{recordsOf}
+use Rattle.directory.specs.Rule.{testedAs}
 use Rattle.directory.proofs.Records.{length-records}
 use Rattle.truncation.specs.Truncate.{truncateOf}
 use Rattle.truncation.proofs.Truncates.{kept-most}
@@ -20,7 +21,7 @@ enum-told : tie.Need-enum-told
 enum-told c = search needs
 
 close-up-requires : tie.Need-close-up-requires
-close-up-requires c κs = sym (c .before .before .before .test .ensures) ∙ c .before .enum-told .given .1
+close-up-requires c κs = sym (c .before .before .before .test .ensures) ∙ ap testedAs (c .before .enum-told .given .1)
 
 sub-count : tie.Need-sub-count
 sub-count c =

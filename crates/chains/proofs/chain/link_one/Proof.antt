@@ -14,17 +14,17 @@ find-requires c κs = search needs
 enum-known-t : tie.Need-enum-known-t
 enum-known-t c = search needs
 
-transaction-link-requires : tie.Need-transaction-link-requires
-transaction-link-requires c κs = search needs
+spare-requires : tie.Need-spare-requires
+spare-requires c κs = search needs
 
-put-entry-link-requires : tie.Need-put-entry-link-requires
-put-entry-link-requires c κs = search needs
+put-spare-requires : tie.Need-put-spare-requires
+put-spare-requires c κs = search needs
 
-add-put-transaction-link : tie.Need-add-put-transaction-link
-add-put-transaction-link c = search needs
+add-put-spare : tie.Need-add-put-spare
+add-put-spare c = search needs
 
-put-transaction-link-requires : tie.Need-put-transaction-link-requires
-put-transaction-link-requires c κs = search needs
+put-spare-requires-2 : tie.Need-put-spare-requires-2
+put-spare-requires-2 c κs = search needs
 
 enum-told : tie.Need-enum-told
 enum-told c = search needs
@@ -38,7 +38,7 @@ same-length-2 c = search needs
 returns : tie.Need-returns
 unfolding linkOne
 returns c =
-    rw (← c .before .before .before .before .before .before .before .before .before .before .before .before .before .before .before .entry-at .ensures, ← c .before .before .before .before .before .before .before .before .before .before .before .before .before .find .ensures, c .before .before .before .before .before .before .before .before .before .before .before .t .given .1, c .before .before .put-transaction-link .ensures, c .before .before .before .before .before .before .put-entry-link .ensures, c .before .before .before .before .before .before .before .before .transaction-link .ensures)
+    rw (← c .before .before .before .before .before .before .before .before .before .before .before .before .before .before .before .entry-at .ensures, ← c .before .before .before .before .before .before .before .before .before .before .before .before .before .find .ensures, c .before .before .before .before .before .before .before .before .before .before .before .t .given .1, c .before .before .put-spare2 .ensures, c .before .before .before .before .before .before .put-spare .ensures, c .before .before .before .before .before .before .before .before .spare .ensures)
 
 same-length-3 : tie.Need-same-length-3
 same-length-3 c = search needs
@@ -57,10 +57,10 @@ link-one-spec =
     entry-at-requires
     find-requires
     enum-known-t
-    transaction-link-requires
-    put-entry-link-requires
-    add-put-transaction-link
-    put-transaction-link-requires
+    spare-requires
+    put-spare-requires
+    add-put-spare
+    put-spare-requires-2
     enum-told
     same-length
     same-length-2

@@ -4,11 +4,11 @@ use borrow.Author.Needs.{needs}
 use Rattle.chains.proofs.chain.unlink.Statement.{statement}
 use Rattle.chains.proofs.chain.unlink.Tie as tie
 
-unlink-entries-requires : tie.Need-unlink-entries-requires
-unlink-entries-requires c κs = search needs
+unlink-list-requires : tie.Need-unlink-list-requires
+unlink-list-requires c κs = search needs
 
-unlink-transactions-requires : tie.Need-unlink-transactions-requires
-unlink-transactions-requires c κs = search needs
+unlink-list-requires-2 : tie.Need-unlink-list-requires-2
+unlink-list-requires-2 c κs = search needs
 
 same-length : tie.Need-same-length
 same-length c = search needs
@@ -18,14 +18,14 @@ same-length-2 c = search needs
 
 returns : tie.Need-returns
 returns c =
-    rw (c .before .before .before .before .before .before .unlink-entries .ensures, c .before .before .unlink-transactions .ensures)
+    rw (c .before .before .before .before .before .before .unlink-list .ensures, c .before .before .unlink-list2 .ensures)
 
 pub unlink-spec : {M : Type 1} → statement M
 unlink-spec =
     tie.close
     (tie.spec
-    unlink-entries-requires
-    unlink-transactions-requires
+    unlink-list-requires
+    unlink-list-requires-2
     same-length
     same-length-2
     returns)

@@ -3,8 +3,8 @@
 use mathlib.Core.Path.{_∙_}
 use borrow.Author.Tests.{le-leb, lt-leb}
 use native.Mathlib.Omega.{arith}
+use Rattle.records.proofs.Dense.{made-room}
 use Rattle.lists.specs.Admit.{beginOf}
-use Rattle.lists.proofs.Noting.{made-room}
 use borrow.Author.Needs.{needs}
 use Rattle.lists.proofs.admit.begin_at.Statement.{statement}
 use Rattle.lists.proofs.admit.begin_at.Tie as tie
@@ -41,7 +41,7 @@ returns-2 : tie.Need-returns-2
 unfolding beginOf
 returns-2 c =
     let a = c .before .before .before .before .before .before .before .before .before .before .before .args in
-    let m = c .before .before .before .before .before .before .before .move-up .ensures ∙ made-room (a .transactions .now) (a .n) (a .k) (omega arith) (omega arith) in
+    let m = c .before .before .before .before .before .before .before .move-up .ensures ∙ made-room 24 (a .transactions .now) (a .n) (a .k) (omega arith) (omega arith) in
     rw (lt-leb _ _ (c .before .before .before .before .before .before .before .before .before .if1 .left), c .before .before .put-transaction .ensures, c .before .before .before .begun .ensures, m)
 
 pub begin-at-spec : {M : Type 1} → statement M

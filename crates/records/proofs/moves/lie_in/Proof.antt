@@ -1,7 +1,7 @@
 -- `records::moves::lie_in` meets its contract: what is left of the bytes says what a sum would.
 -- Assumes nothing.
 use mathlib.Core.Path.{sym}
-use Prim.Native.Nat.{_-_, _/_}
+use Prim.Native.Nat.{_-_}
 use native.Mathlib.Omega.{arith}
 use lib.Dec.{leb}
 use borrow.Author.Tests.{le-leb, lt-leb}
@@ -22,7 +22,7 @@ sub-result c = search needs
 returns-3 : tie.Need-returns-3
 returns-3 c =
     let a = c .before .before .args in
-    caseB (leb (a .words) ((a .len - a .at - a .by) / 8))
+    caseB (leb (a .len) (a .room - a .at - a .by))
     (λ q. rw q (sym (omega (arith, tests, le-leb))))
     (λ q. rw q (sym (omega (arith, tests, lt-leb))))
 

@@ -1,14 +1,12 @@
 -- `checkpoint` meets its contract: refused by the target or by the recovery, or by what the transactions say.
 -- Assumes nothing.
 use mathlib.Core.Path.{_≡_}
-use mathlib.Core.List.{List}
 use Prim.Native.Nat.{ℕ, _<_, _≤_}
 use native.Mathlib.Omega.{arith}
 use borrow.Author.Tests.{lt-ltb, le-ltb, le-leb, lt-leb}
-use lib.Seq.{sets}
-use Rattle.fields.specs.Le.{leBytes}
+use Rattle.refusal.specs.Answer.{refused, accepted}
 use Rattle.refusal.specs.declared.Refusal.the-variants.{NoNewCheckpoints}
-use Rattle.recovery.specs.Checkpoint.{advancing, advanceOf, checkpointOf}
+use Rattle.recovery.specs.Checkpoint.{advanceOf, checkpointOf}
 use Rattle.recovery.specs.declared.checkpoints.Checkpointed.the-variants.{Refused, At}
 use Rattle.recovery.proofs.Accepts.{checkpoints}
 use borrow.Author.Needs.{needs}
@@ -16,14 +14,14 @@ use Rattle.recovery.proofs.checkpoints.checkpoint.Statement.{statement}
 use Rattle.recovery.proofs.checkpoints.checkpoint.Tie as tie
 
 -- by whether the highest number exceeds the stored one
-module _ (highest stored : ℕ) (target : List ℕ) where
-  stays : highest ≤ stored → advancing (Refused NoNewCheckpoints) target ≡ advanceOf highest stored target
+module _ (highest stored : ℕ) where
+  stays : highest ≤ stored → refused 10 ≡ advanceOf highest stored
   unfolding advanceOf
   stays h = rw (le-ltb stored highest h)
 
-  advances : stored < highest → (target′ : List ℕ) → target′ ≡ sets target 0 (leBytes 8 highest) → advancing (At highest) target′ ≡ advanceOf highest stored target
+  advances : stored < highest → accepted highest ≡ advanceOf highest stored
   unfolding advanceOf
-  advances h target′ e = rw (lt-ltb stored highest h, e)
+  advances h = rw (lt-ltb stored highest h)
 
 returns : tie.Need-returns
 unfolding checkpointOf
@@ -54,7 +52,7 @@ returns-2 : tie.Need-returns-2
 unfolding checkpointOf
 returns-2 c =
     rw (le-leb _ _ (c .before .before .before .before .before .before .before .before .before .before .before .before .before .before .before .if1 .left))
-    (checkpoints _ _ _ _ _ _ _ _ _ (c .before .before .before .before .before .before .recovered .given .0 .0) _ _ (Refused NoNewCheckpoints) _ (λ i. c .before .before .before .before .before .before .before .before .before .before .before .before .before .before .before .before .before .before .before .before .before .shared-slice-known .given i .fits) (rw (c .before .before .before .before .before .before .recovered .given .1) at (c .before .before .before .before .before .before .before .before .before .before .before .before .recover .ensures)) (c .before .before .highest-committed .ensures) (c .before .read-checkpoint .ensures) (stays (c .before .before .highest-committed .result) (c .before .read-checkpoint .result) _ (omega arith)))
+    (checkpoints _ _ _ _ _ _ _ _ _ (c .before .before .before .before .before .before .recovered .given .0 .0) _ _ (Refused NoNewCheckpoints) _ (λ i. c .before .before .before .before .before .before .before .before .before .before .before .before .before .before .before .before .before .before .before .before .before .shared-slice-known .given i .fits) (rw (c .before .before .before .before .before .before .recovered .given .1) at (c .before .before .before .before .before .before .before .before .before .before .before .before .recover .ensures)) (c .before .before .highest-committed .ensures) (c .before .read-checkpoint .ensures) (stays (c .before .before .highest-committed .result) (c .before .read-checkpoint .result) (omega arith)) (rw (← stays (c .before .before .highest-committed .result) (c .before .read-checkpoint .result) (omega arith))))
 
 put-u64-requires : tie.Need-put-u64-requires
 put-u64-requires c κs = search needs
@@ -82,7 +80,7 @@ returns-4 : tie.Need-returns-4
 unfolding checkpointOf
 returns-4 c =
     rw (le-leb _ _ (c .before .before .before .before .before .before .before .before .before .before .before .before .before .before .before .before .before .before .before .if1 .left))
-    (checkpoints _ _ _ _ _ _ _ _ _ (c .before .before .before .before .before .before .before .before .before .before .recovered .given .0 .0) _ _ (At (c .before .before .before .before .before .before .highest-committed .result)) _ (λ i. c .before .before .before .before .before .before .before .before .before .before .before .before .before .before .before .before .before .before .before .before .before .before .before .before .before .shared-slice-known .given i .fits) (rw (c .before .before .before .before .before .before .before .before .before .before .recovered .given .1) at (c .before .before .before .before .before .before .before .before .before .before .before .before .before .before .before .before .recover .ensures)) (c .before .before .before .before .before .before .highest-committed .ensures) (c .before .before .before .before .before .read-checkpoint .ensures) (advances _ _ _ (c .before .before .before .before .if2 .left) _ (c .before .before .put-u64 .ensures)))
+    (checkpoints _ _ _ _ _ _ _ _ _ (c .before .before .before .before .before .before .before .before .before .before .recovered .given .0 .0) _ _ (At (c .before .before .before .before .before .before .highest-committed .result)) _ (λ i. c .before .before .before .before .before .before .before .before .before .before .before .before .before .before .before .before .before .before .before .before .before .before .before .before .before .shared-slice-known .given i .fits) (rw (c .before .before .before .before .before .before .before .before .before .before .recovered .given .1) at (c .before .before .before .before .before .before .before .before .before .before .before .before .before .before .before .before .recover .ensures)) (c .before .before .before .before .before .before .highest-committed .ensures) (c .before .before .before .before .before .read-checkpoint .ensures) (advances _ _ (c .before .before .before .before .if2 .left)) (rw (← advances _ _ (c .before .before .before .before .if2 .left)) (c .before .before .put-u64 .ensures)))
 
 pub checkpoint-spec : {M : Type 1} → statement M
 checkpoint-spec =

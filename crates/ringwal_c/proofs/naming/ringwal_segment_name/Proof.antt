@@ -1,5 +1,7 @@
 -- `ringwal_segment_name` meets its contract.
 -- Assumes nothing.
+use mathlib.Core.Path.{ap}
+use Rattle.ringwal_c.specs.Naming.{forHost}
 use borrow.Author.Needs.{needs}
 use Rattle.ringwal_c.proofs.naming.ringwal_segment_name.Statement.{statement}
 use Rattle.ringwal_c.proofs.naming.ringwal_segment_name.Tie as tie
@@ -14,7 +16,7 @@ same-length : tie.Need-same-length
 same-length c = search needs
 
 returns : tie.Need-returns
-returns c = rw (c .name-answer .ensures, c .before .before .before .segment-name .ensures .answer, c .before .before .before .segment-name .ensures .target)
+returns c = rw (c .name-answer .ensures) (ap forHost (c .before .before .before .segment-name .ensures))
 
 pub ringwal-segment-name-spec : {M : Type 1} → statement M
 ringwal-segment-name-spec =

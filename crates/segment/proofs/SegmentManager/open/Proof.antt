@@ -1,8 +1,9 @@
 -- `open` meets its contract: what the plan refuses changes nothing, else its record is stored.
 -- Assumes nothing.
-use mathlib.Core.Path.{sym, _∙_}
+use mathlib.Core.Path.{ap, sym, _∙_}
 use native.Mathlib.Omega.{arith}
 use Rattle.segment.specs.Writing.{openOf}
+use Rattle.plan.specs.Plan.{newSegmentAs}
 use Rattle.plan.proofs.Plans.{open-says}
 use Rattle.directory.proofs.Sound.{sound-says}
 use borrow.Author.Needs.{needs}
@@ -25,7 +26,7 @@ new-requires : tie.Need-new-requires
 new-requires c κs = search needs
 
 add-t17 : tie.Need-add-t17
-add-t17 c = omega (arith, sound-says _ _ _ (open-says _ _ _ _ (sym (c .before .before .before .before .before .before .before .before .new-segment .ensures) ∙ c .before .before .before .before .before .before .segment .given .1) .sound))
+add-t17 c = omega (arith, sound-says _ _ _ (open-says _ _ _ _ (sym (c .before .before .before .before .before .before .before .before .new-segment .ensures) ∙ ap newSegmentAs (c .before .before .before .before .before .before .segment .given .1)) .sounds))
 
 same-length : tie.Need-same-length
 same-length c = search needs

@@ -5,7 +5,8 @@ use native.Mathlib.Omega.{arith}
 use Rattle.entry.specs.Decode.{contentAt}
 use Rattle.entry.proofs.Places.{decode-within}
 use Rattle.store.specs.Apply.{changeOf}
-use Rattle.store.proofs.Applies.{applied, not-refused, marker-changes}
+use Rattle.store.specs.Effect.{effectOf}
+use Rattle.store.proofs.Applies.{effect-read, not-refused, marker-keeps}
 use borrow.Author.Needs.{needs}
 use Rattle.store.proofs.apply.apply.Statement.{statement}
 use Rattle.store.proofs.apply.apply.Tie as tie
@@ -40,14 +41,14 @@ enum-known-entry-2 c = search needs
 bytes-at-requires : tie.Need-bytes-at-requires
 bytes-at-requires c κs =
     let d = decode-within _ _ _ (sym (c .before .before .before .before .before .before .before .decode .ensures) ∙ c .before .before .before .before .before .entry .given .1) in
-    let w = rw (c .before .before .entry2 .given .1) at (d .parts) in
-    omega (arith, w .0, d .end)
+    let w = rw (c .before .before .entry2 .given .1) at (d .laid) in
+    omega (arith, w .0 .part .end)
 
 bytes-at-requires-2 : tie.Need-bytes-at-requires-2
 bytes-at-requires-2 c κs =
     let d = decode-within _ _ _ (sym (c .before .before .before .before .before .before .before .before .decode .ensures) ∙ c .before .before .before .before .before .before .entry .given .1) in
-    let w = rw (c .before .before .before .entry2 .given .1) at (d .parts) in
-    omega (arith, w .1, d .end)
+    let w = rw (c .before .before .before .entry2 .given .1) at (d .laid) in
+    omega (arith, w .1 .end)
 
 set-requires : tie.Need-set-requires
 set-requires c κs = search needs
@@ -58,14 +59,14 @@ enum-known-entry-3 c = search needs
 bytes-at-requires-3 : tie.Need-bytes-at-requires-3
 bytes-at-requires-3 c κs =
     let d = decode-within _ _ _ (sym (c .before .before .before .before .before .before .before .decode .ensures) ∙ c .before .before .before .before .before .entry .given .1) in
-    let w = rw (c .before .before .entry3 .given .1) at (d .parts) in
-    omega (arith, w .0, d .end)
+    let w = rw (c .before .before .entry3 .given .1) at (d .laid) in
+    omega (arith, w .0 .part .end)
 
 bytes-at-requires-4 : tie.Need-bytes-at-requires-4
 bytes-at-requires-4 c κs =
     let d = decode-within _ _ _ (sym (c .before .before .before .before .before .before .before .before .decode .ensures) ∙ c .before .before .before .before .before .before .entry .given .1) in
-    let w = rw (c .before .before .before .entry3 .given .1) at (d .parts) in
-    omega (arith, w .2, d .end)
+    let w = rw (c .before .before .before .entry3 .given .1) at (d .laid) in
+    omega (arith, w .2 .end)
 
 set-requires-2 : tie.Need-set-requires-2
 set-requires-2 c κs = search needs
@@ -76,8 +77,8 @@ enum-known-entry-4 c = search needs
 bytes-at-requires-5 : tie.Need-bytes-at-requires-5
 bytes-at-requires-5 c κs =
     let d = decode-within _ _ _ (sym (c .before .before .before .before .before .before .before .decode .ensures) ∙ c .before .before .before .before .before .entry .given .1) in
-    let w = rw (c .before .before .entry4 .given .1) at (d .parts) in
-    omega (arith, w .0, d .end)
+    let w = rw (c .before .before .entry4 .given .1) at (d .laid) in
+    omega (arith, w .0 .part .end)
 
 remove-requires : tie.Need-remove-requires
 remove-requires c κs = search needs
@@ -86,31 +87,32 @@ same-length : tie.Need-same-length
 same-length c = search needs
 
 returns-2 : tie.Need-returns-2
-unfolding changeOf contentAt
+unfolding changeOf effectOf contentAt
 returns-2 c =
     c .before .before .set .ensures
-    ∙ rw (c .before .before .before .bytes-at2 .ensures, c .before .before .before .before .bytes-at .ensures, applied _ _ _ _ _ _ (sym (c .before .before .before .before .before .before .before .before .before .before .before .before .decode .ensures) ∙ c .before .before .before .before .before .before .before .before .before .before .entry .given .1), c .before .before .before .before .before .before .before .entry2 .given .1)
+    ∙ rw (c .before .before .before .bytes-at2 .ensures, c .before .before .before .before .bytes-at .ensures, effect-read _ _ _ _ (sym (c .before .before .before .before .before .before .before .before .before .before .before .before .decode .ensures) ∙ c .before .before .before .before .before .before .before .before .before .before .entry .given .1), c .before .before .before .before .before .before .before .entry2 .given .1)
 
 same-length-2 : tie.Need-same-length-2
 same-length-2 c = search needs
 
 returns-3 : tie.Need-returns-3
-unfolding changeOf contentAt
+unfolding changeOf effectOf contentAt
 returns-3 c =
     c .before .before .set2 .ensures
-    ∙ rw (c .before .before .before .bytes-at4 .ensures, c .before .before .before .before .bytes-at3 .ensures, applied _ _ _ _ _ _ (sym (c .before .before .before .before .before .before .before .before .before .before .before .before .decode .ensures) ∙ c .before .before .before .before .before .before .before .before .before .before .entry .given .1), c .before .before .before .before .before .before .before .entry3 .given .1)
+    ∙ rw (c .before .before .before .bytes-at4 .ensures, c .before .before .before .before .bytes-at3 .ensures, effect-read _ _ _ _ (sym (c .before .before .before .before .before .before .before .before .before .before .before .before .decode .ensures) ∙ c .before .before .before .before .before .before .before .before .before .before .entry .given .1), c .before .before .before .before .before .before .before .entry3 .given .1)
 
 same-length-3 : tie.Need-same-length-3
 same-length-3 c = search needs
 
 returns-4 : tie.Need-returns-4
-unfolding changeOf contentAt
+unfolding changeOf effectOf contentAt
 returns-4 c =
     c .before .before .remove .ensures
-    ∙ rw (c .before .before .before .bytes-at5 .ensures, applied _ _ _ _ _ _ (sym (c .before .before .before .before .before .before .before .before .before .before .before .decode .ensures) ∙ c .before .before .before .before .before .before .before .before .before .entry .given .1), c .before .before .before .before .before .before .entry4 .given .1)
+    ∙ rw (c .before .before .before .bytes-at5 .ensures, effect-read _ _ _ _ (sym (c .before .before .before .before .before .before .before .before .before .before .before .decode .ensures) ∙ c .before .before .before .before .before .before .before .before .before .entry .given .1), c .before .before .before .before .before .before .entry4 .given .1)
 
 returns-5 : tie.Need-returns-5
-returns-5 c = sym (applied _ _ _ _ _ _ (sym (c .before .before .before .before .decode .ensures) ∙ c .before .before .entry .given .1) ∙ marker-changes _ _ _ _ (c .match2 .keys4))
+unfolding changeOf
+returns-5 c = rw (effect-read _ _ _ _ (sym (c .before .before .before .before .decode .ensures) ∙ c .before .before .entry .given .1), marker-keeps _ _ (c .match2 .keys4))
 
 pub apply-spec : {M : Type 1} → statement M
 apply-spec =

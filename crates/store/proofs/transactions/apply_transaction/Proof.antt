@@ -18,11 +18,11 @@ abbrev μ-loop : tie.MeasureT-loop
 μ-loop area entries transactions k table₀ rows count₀ link₀ table count link =
     length (fromLink (transactionIn transactions k .«tx_id») link (entriesIn entries))
 
-transaction-link-requires : tie.Need-transaction-link-requires Inv-loop μ-loop
-transaction-link-requires c κs = search needs
+spare-requires : tie.Need-spare-requires Inv-loop μ-loop
+spare-requires c κs = search needs
 
 loop-holds : tie.Need-loop-holds Inv-loop μ-loop
-loop-holds c = walking-starts _ _ _ (c .before .before .before .before .before .pre .0) _ _ _ _ (c .before .before .before .before .before .pre .1) (c .before .before .before .before .before .pre .2) (c .transaction-link .ensures)
+loop-holds c = walking-starts _ _ _ (c .before .before .before .before .before .pre .0) _ _ _ _ (c .before .before .before .before .before .pre .1) (c .before .before .before .before .before .pre .2) (c .spare .ensures)
 
 sub-at : tie.Need-sub-at Inv-loop μ-loop
 sub-at c = search needs
@@ -41,17 +41,17 @@ same-length c = search needs
 
 returns : tie.Need-returns Inv-loop μ-loop
 returns c =
-    walking-stops _ _ _ (c .before .before .before .before .before .before .before .before .before .before .before .before .before .pre .0) _ _ _ _ _ _ (c .before .before .before .before .before .before .loop-test .taken) (c .before .before .before .before .before .before .before .loop .inv) _ (c .before .before .before .before .before .entry-at .ensures) _ _ (c .before .before .before .apply .ensures) (c .match .keys2)
+    walking-stops _ _ _ (c .before .before .before .before .before .before .before .before .before .before .before .before .before .pre .0) _ _ _ _ _ _ (c .before .before .before .before .before .before .loop-test .taken) (c .before .before .before .before .before .before .before .loop .inv) _ (c .before .before .before .before .before .entry-at .ensures) (c .before .before .before .apply .result) _ (c .before .before .before .apply .ensures) (c .match .keys2)
 
-entry-link-requires : tie.Need-entry-link-requires Inv-loop μ-loop
-entry-link-requires c κs = search needs
+spare-requires-2 : tie.Need-spare-requires-2 Inv-loop μ-loop
+spare-requires-2 c κs = search needs
 
 loop-less : tie.Need-loop-less Inv-loop μ-loop
-loop-less c = turn-falls _ _ _ (c .before .before .before .before .before .before .before .before .before .before .before .before .before .before .before .before .pre .0) _ _ (c .before .before .before .before .before .before .before .before .before .loop-test .taken) (c .before .before .before .before .before .before .before .before .before .before .loop .inv .leads) _ (c .entry-link .ensures)
+loop-less c = turn-falls _ _ _ (c .before .before .before .before .before .before .before .before .before .before .before .before .before .before .before .before .pre .0) _ _ (c .before .before .before .before .before .before .before .before .before .loop-test .taken) (c .before .before .before .before .before .before .before .before .before .before .loop .inv .leads) _ (c .spare2 .ensures)
 
 loop-again : tie.Need-loop-again Inv-loop μ-loop
 loop-again c =
-    walking-goes _ _ _ (c .before .before .before .before .before .before .before .before .before .before .before .before .before .before .before .before .pre .0) _ _ _ _ _ _ (c .before .before .before .before .before .before .before .before .before .loop-test .taken) (c .before .before .before .before .before .before .before .before .before .before .loop .inv) _ (c .before .before .before .before .before .before .before .before .entry-at .ensures) _ _ (c .before .before .before .before .before .before .apply .ensures) _ (c .before .before .set .given .1) _ (c .entry-link .ensures)
+    walking-goes _ _ _ (c .before .before .before .before .before .before .before .before .before .before .before .before .before .before .before .before .pre .0) _ _ _ _ _ _ (c .before .before .before .before .before .before .before .before .before .loop-test .taken) (c .before .before .before .before .before .before .before .before .before .before .loop .inv) _ (c .before .before .before .before .before .before .before .before .entry-at .ensures) _ _ (c .before .before .before .before .before .before .apply .ensures) _ (c .before .before .set .given .1) _ (c .spare2 .ensures)
 
 same-length-2 : tie.Need-same-length-2 Inv-loop μ-loop
 same-length-2 c = c .before .loop .inv .room
@@ -65,7 +65,7 @@ apply-transaction-spec =
     (tie.spec
     Inv-loop
     μ-loop
-    transaction-link-requires
+    spare-requires
     loop-holds
     sub-at
     entry-at-requires
@@ -73,7 +73,7 @@ apply-transaction-spec =
     enum-known-set
     same-length
     returns
-    entry-link-requires
+    spare-requires-2
     loop-less
     loop-again
     same-length-2

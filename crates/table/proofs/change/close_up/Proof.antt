@@ -2,7 +2,7 @@
 -- Assumes nothing.
 use mathlib.Core.Path.{_∙_}
 use native.Mathlib.Omega.{arith}
-use Rattle.table.proofs.Moved.{closed-up}
+use Rattle.records.proofs.Dense.{closed-up}
 use borrow.Author.Needs.{needs}
 use Rattle.table.proofs.change.close_up.Statement.{statement}
 use Rattle.table.proofs.change.close_up.Tie as tie
@@ -34,7 +34,7 @@ same-length c = search needs
 returns : tie.Need-returns
 returns c =
     let a = c .before .before .before .before .before .before .before .before .before .args in
-    rw (c .before .before .empty-row .ensures, c .before .before .before .before .before .before .move-down .ensures ∙ closed-up (a .table .now) (a .n) (a .k) (omega arith) (omega arith))
+    rw (c .before .before .empty-row .ensures, c .before .before .before .before .before .before .move-down .ensures ∙ closed-up 320 (a .table .now) (a .n) (a .k) (omega arith) (omega arith))
 
 pub close-up-spec : {M : Type 1} → statement M
 close-up-spec =

@@ -6,7 +6,7 @@ use native.Mathlib.Omega.{arith}
 use lib.ListN.{length}
 use borrow.Author.Tests.{le-leb, lt-leb}
 use Rattle.table.specs.Change.{insertOf}
-use Rattle.table.proofs.Moved.{made-room}
+use Rattle.records.proofs.Dense.{made-room}
 use borrow.Author.Needs.{needs}
 use Rattle.table.proofs.change.insert_at.Statement.{statement}
 use Rattle.table.proofs.change.insert_at.Tie as tie
@@ -42,7 +42,7 @@ returns-2 : tie.Need-returns-2
 unfolding insertOf
 returns-2 c =
     let a = c .before .before .before .before .before .before .before .before .before .before .before .before .args in
-    rw (lt-leb (length (a .table .now) / 320) (a .n) (omega arith), c .before .before .put-row .ensures, c .before .before .before .before .before .before .move-up .ensures ∙ made-room (a .table .now) (a .n) (a .k) (omega arith) (omega arith))
+    rw (lt-leb (length (a .table .now) / 320) (a .n) (omega arith), c .before .before .put-row .ensures, c .before .before .before .before .before .before .move-up .ensures ∙ made-room 320 (a .table .now) (a .n) (a .k) (omega arith) (omega arith))
 
 pub insert-at-spec : {M : Type 1} → statement M
 insert-at-spec =

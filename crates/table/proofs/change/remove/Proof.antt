@@ -3,7 +3,7 @@
 use mathlib.Core.Path.{sym, _∙_}
 use native.Mathlib.Omega.{arith}
 use Rattle.table.specs.Change.{removeOf}
-use Rattle.table.proofs.Moved.{found-at}
+use Rattle.table.proofs.Within.{found-at}
 use borrow.Author.Needs.{needs}
 use Rattle.table.proofs.change.remove.Statement.{statement}
 use Rattle.table.proofs.change.remove.Tie as tie

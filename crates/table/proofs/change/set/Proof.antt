@@ -5,7 +5,7 @@ use native.Mathlib.Omega.{arith}
 use borrow.Author.Tests.{not-true, not-false}
 use Rattle.table.specs.Change.{setOf}
 use Rattle.table.proofs.Rows.{fits-true}
-use Rattle.table.proofs.Moved.{found-at, found-gap}
+use Rattle.table.proofs.Within.{found-at, found-gap}
 use borrow.Author.Needs.{needs}
 use Rattle.table.proofs.change.set.Statement.{statement}
 use Rattle.table.proofs.change.set.Tie as tie
