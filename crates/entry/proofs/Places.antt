@@ -14,7 +14,7 @@ use Rattle.fields.proofs.Cases.{caseB, tests}
 use Rattle.utf8.specs.Grammar.{isUtf8}
 use Rattle.payload.specs.Kind.{insertKind, updateKind, deleteKind, commitKind, abortKind, byKind}
 use Rattle.entry.specs.Parts.{txOf, timeOf, kindOf}
-use Rattle.entry.specs.Decode.{bytesAt, endOf, partAt, ifUtf8, keyAt, then, keyAndPart, updateAt, decodeOf}
+use Rattle.entry.specs.Decode.{bytesAt, endOf, partAt, ifUtf8, keyAt, then, pairAt, thenPair, keyAndPart, updateAt, decodeOf}
 use Rattle.entry.specs.declared.Place.{Place}
 use Rattle.entry.specs.declared.WalEntry.{WalEntry}
 use Rattle.entry.specs.declared.WalEntry.the-variants.{Insert, Update, Delete, Commit, Abort}
@@ -22,6 +22,8 @@ use Rattle.entry.specs.declared.decoding.Decoded.{Decoded}
 use Rattle.entry.specs.declared.decoding.Decoded.the-variants.{Refused, Entry}
 use Rattle.entry.specs.declared.decoding.Part.{Part}
 use Rattle.entry.specs.declared.decoding.Part.the-variants.{Fails, At}
+use Rattle.entry.specs.declared.decoding.Pair.{Pair}
+use Rattle.entry.specs.declared.decoding.Pair.the-variants.{Lacks, Has}
 
 -- a part that is found: its length stands before it, and it ends in the payload
 pub record PartIs (s : List ℕ) (at : ℕ) (p : Place) : Type 0 where
@@ -70,6 +72,29 @@ pub keyed : (s : List ℕ) (at : ℕ) (p : Place) (t : Bool) → partAt s at ≡
 unfolding keyAt
 keyed s at p t e u = rw (e, u)
 
+-- a key, and a part behind it
+pub record PairIs (s : List ℕ) (k p : Place) : Type 0 where
+  pub key : KeyIs s 20 k
+  pub part : PartIs s (endOf k) p
+
+pub pair-says : (s : List ℕ) (key part : Place) → pairAt s ≡ Has key part → PairIs s key part
+unfolding pairAt
+pair-says s key part e = first (keyAt s 20) refl e
+  where
+    first : (q : Part) → keyAt s 20 ≡ q → then Lacks q (λ k. then Lacks (partAt s (endOf k)) (Has k)) ≡ Has key part → PairIs s key part
+    first Fails f e = let z : _≡_ {A = ℕ} 0 1 = cc in absurd (omega arith)
+    first (At k) f e = second (partAt s (endOf k)) refl e
+      where
+        second : (q : Part) → partAt s (endOf k) ≡ q → then Lacks q (Has k) ≡ Has key part → PairIs s key part
+        second Fails g e = let z : _≡_ {A = ℕ} 0 1 = cc in absurd (omega arith)
+        second (At p) g e =
+            let one : k ≡ key = cc in
+            let two : p ≡ part = cc in
+            rw (← one, ← two) (record { key = key-says s 20 k f; part = part-says s (endOf k) p g })
+
+pub pair-within : (s : List ℕ) (key part : Place) → pairAt s ≡ Has key part → endOf part ≤ length s
+pair-within s key part e = pair-says s key part e .part .end
+
 -- ---- a payload that is decoded
 
 -- the parts that the kind has, one behind the other; the last one ends where the entry does
@@ -93,43 +118,39 @@ abbrev Says : List ℕ → Decoded → Type 0
 Says s Refused = Unit {0}
 Says s (Entry e used) = DecodedIs s e used
 
-module _ (s : List ℕ) (go : Place → Decoded) where
-  then-part : (at : ℕ) → ((p : Place) → PartIs s at p → Says s (go p)) → Says s (then (partAt s at) go)
-  then-part at next = told (partAt s at) refl
+module _ (s : List ℕ) where
+  then-part : (go : Place → Decoded) (at : ℕ) → ((p : Place) → PartIs s at p → Says s (go p)) → Says s (then Refused (partAt s at) go)
+  then-part go at next = told (partAt s at) refl
     where
-      told : (q : Part) → partAt s at ≡ q → Says s (then q go)
+      told : (q : Part) → partAt s at ≡ q → Says s (then Refused q go)
       told Fails e = tt
       told (At p) e = next p (part-says s at p e)
 
-  then-key : (at : ℕ) → ((p : Place) → KeyIs s at p → Says s (go p)) → Says s (then (keyAt s at) go)
-  then-key at next = told (keyAt s at) refl
+  then-pair : (go : Place → Place → Decoded) → ((key part : Place) → PairIs s key part → Says s (go key part)) → Says s (thenPair (pairAt s) go)
+  then-pair go next = told (pairAt s) refl
     where
-      told : (q : Part) → keyAt s at ≡ q → Says s (then q go)
-      told Fails e = tt
-      told (At p) e = next p (key-says s at p e)
+      told : (q : Pair) → pairAt s ≡ q → Says s (thenPair q go)
+      told Lacks e = tt
+      told (Has key part) e = next key part (pair-says s key part e)
 
-module _ (s : List ℕ) where
   insert-says : numAt 0 4 s ≡ insertKind → Says s (keyAndPart s (Insert (numAt 4 8 s) (numAt 12 8 s)))
   unfolding keyAndPart
   insert-says kind =
-      then-key s _ 20
-      (λ key k. then-part s _ (endOf key)
-      (λ value v. record { least = omega arith; end = v .end; kind = kind; tx = refl; time = refl; laid = (k, v, refl) }))
+      then-pair _
+      (λ key value w. record { least = omega (arith, w .key .part, w .part); end = w .part .end; kind = kind; tx = refl; time = refl; laid = (w .key, w .part, refl) })
 
   delete-says : numAt 0 4 s ≡ deleteKind → Says s (keyAndPart s (Delete (numAt 4 8 s) (numAt 12 8 s)))
   unfolding keyAndPart
   delete-says kind =
-      then-key s _ 20
-      (λ key k. then-part s _ (endOf key)
-      (λ old o. record { least = omega arith; end = o .end; kind = kind; tx = refl; time = refl; laid = (k, o, refl) }))
+      then-pair _
+      (λ key old w. record { least = omega (arith, w .key .part, w .part); end = w .part .end; kind = kind; tx = refl; time = refl; laid = (w .key, w .part, refl) })
 
   update-says : numAt 0 4 s ≡ updateKind → Says s (updateAt s (numAt 4 8 s) (numAt 12 8 s))
   unfolding updateAt
   update-says kind =
-      then-key s _ 20
-      (λ key k. then-part s _ (endOf key)
-      (λ old o. then-part s _ (endOf old)
-      (λ new n. record { least = omega arith; end = n .end; kind = kind; tx = refl; time = refl; laid = (k, o, n, refl) })))
+      then-pair _
+      (λ key old w. then-part _ (endOf old)
+      (λ new n. record { least = omega (arith, w .key .part, w .part); end = n .end; kind = kind; tx = refl; time = refl; laid = (w .key, w .part, n, refl) }))
 
 -- what holds of each of six, if the number is its kind's, holds of the one that a kind picks
 by-each : {A : Type 0} (P : A → Type 0) (k : ℕ) {i u d c a o : A}

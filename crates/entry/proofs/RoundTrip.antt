@@ -20,12 +20,13 @@ use Rattle.payload.specs.Content.{Content, insert, update, delete, commit, abor
 use Rattle.payload.specs.Encode.{Encoding, encoding, putOf, encodeOf}
 use Rattle.payload.specs.declared.Encoded.the-variants.{Written, NotWellFormed, NoRoom}
 use Rattle.entry.specs.Parts.{txOf, kindOf}
-use Rattle.entry.specs.Decode.{bytesAt, partAt, keyAt, keyAndPart, updateAt, bodyAt, decodeOf, contentAt}
+use Rattle.entry.specs.Decode.{bytesAt, partAt, keyAt, pairAt, keyAndPart, updateAt, bodyAt, decodeOf, contentAt}
 use Rattle.entry.specs.declared.Place.{Place}
 use Rattle.entry.specs.declared.WalEntry.{WalEntry}
 use Rattle.entry.specs.declared.WalEntry.the-variants.{Insert, Update, Delete, Commit, Abort}
 use Rattle.entry.specs.declared.decoding.Decoded.the-variants.{Entry}
 use Rattle.entry.specs.declared.decoding.Part.the-variants.{At}
+use Rattle.entry.specs.declared.decoding.Pair.the-variants.{Has}
 use Rattle.payload.proofs.Laws.{length-fixed, length-part, limits}
 use Rattle.entry.proofs.Places.{keyed}
 
@@ -126,27 +127,24 @@ module _ (kind tx time : ℕ) (key value rest : List ℕ) where
   value-bytes-of-two : bytesAt two (behind (28 + length key) value) ≡ value
   value-bytes-of-two = later-bytes (fixedBytes kind tx time) (partBytes key) value rest (28 + length key) second-at
 
-  read-two : (entry : Place → Place → WalEntry) → isUtf8 key ≡ true → length key < 2 ^ 64 → length value < 2 ^ 64
-      → keyAndPart two entry ≡ Entry (entry (behind 20 key) (behind (28 + length key) value)) (28 + length key + 8 + length value)
-  unfolding keyAndPart
-  read-two entry u k v = rw (key-of-two u k, value-of-two v)
+  pair-of-two : isUtf8 key ≡ true → length key < 2 ^ 64 → length value < 2 ^ 64 → pairAt two ≡ Has (behind 20 key) (behind (28 + length key) value)
+  unfolding pairAt
+  pair-of-two u k v = rw (key-of-two u k, value-of-two v)
 
   length-two : length (fixedBytes kind tx time ++ (partBytes key ++ partBytes value)) ≡ 28 + length key + 8 + length value
   length-two = rw (length-append, length-append, length-part, length-part, length-fixed) (omega arith)
 
 module _ (tx time : ℕ) (hx : tx < 2 ^ 64) (ht : time < 2 ^ 64) (rest : List ℕ) where
   pub decode-payload : (content : Content) → Readable content → decodeOf (payloadOf tx time content ++ rest) ≡ Entry (placed tx time content) (length (payloadOf tx time content))
-  unfolding payloadOf byKind updateAt readable
+  unfolding payloadOf byKind keyAndPart updateAt readable
   decode-payload (insert key value) r =
       let f = fixedBytes 0 tx time in
       let e : (f ++ (partBytes key ++ partBytes value)) ++ rest ≡ two 0 tx time key value rest = simp append-assoc in
-      rw (length-two 0 tx time key value rest, e, decode-fixed 0 tx time (partBytes key ++ (partBytes value ++ rest)) (lit< tt) hx ht)
-      (read-two 0 tx time key value rest (Insert tx time) (r .utf8) (r .short .0) (r .short .1))
+      rw (length-two 0 tx time key value rest, e, decode-fixed 0 tx time (partBytes key ++ (partBytes value ++ rest)) (lit< tt) hx ht, pair-of-two 0 tx time key value rest (r .utf8) (r .short .0) (r .short .1))
   decode-payload (delete key old) r =
       let f = fixedBytes 2 tx time in
       let e : (f ++ (partBytes key ++ partBytes old)) ++ rest ≡ two 2 tx time key old rest = simp append-assoc in
-      rw (length-two 2 tx time key old rest, e, decode-fixed 2 tx time (partBytes key ++ (partBytes old ++ rest)) (lit< tt) hx ht)
-      (read-two 2 tx time key old rest (Delete tx time) (r .utf8) (r .short .0) (r .short .1))
+      rw (length-two 2 tx time key old rest, e, decode-fixed 2 tx time (partBytes key ++ (partBytes old ++ rest)) (lit< tt) hx ht, pair-of-two 2 tx time key old rest (r .utf8) (r .short .0) (r .short .1))
   decode-payload (update key old new) r =
       let f = fixedBytes 1 tx time in
       let e : (f ++ (partBytes key ++ (partBytes old ++ partBytes new))) ++ rest ≡ two 1 tx time key old (partBytes new ++ rest) = simp append-assoc in
@@ -155,7 +153,7 @@ module _ (tx time : ℕ) (hx : tx < 2 ^ 64) (ht : time < 2 ^ 64) (rest : List �
       let third : partAt (two 1 tx time key old (partBytes new ++ rest)) (28 + length key + 8 + length old) ≡ At (behind (28 + length key + 8 + length old) new) =
       rw (← append-assoc (partBytes key) (partBytes old) (partBytes new ++ rest))
       (later-read f (partBytes key ++ partBytes old) new rest (28 + length key + 8 + length old) (length-two 1 tx time key old rest) (r .short .2)) in
-      rw (n, e, decode-fixed 1 tx time (partBytes key ++ (partBytes old ++ (partBytes new ++ rest))) (lit< tt) hx ht, key-of-two 1 tx time key old (partBytes new ++ rest) (r .utf8) (r .short .0), value-of-two 1 tx time key old (partBytes new ++ rest) (r .short .1), third)
+      rw (n, e, decode-fixed 1 tx time (partBytes key ++ (partBytes old ++ (partBytes new ++ rest))) (lit< tt) hx ht, pair-of-two 1 tx time key old (partBytes new ++ rest) (r .utf8) (r .short .0) (r .short .1), third)
   decode-payload commit r = rw (append-nil, decode-fixed 3 tx time rest (lit< tt) hx ht, length-fixed)
   decode-payload abort r = rw (append-nil, decode-fixed 4 tx time rest (lit< tt) hx ht, length-fixed)
 

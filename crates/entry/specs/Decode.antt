@@ -17,6 +17,8 @@ use Rattle.entry.specs.declared.decoding.Decoded.{Decoded}
 use Rattle.entry.specs.declared.decoding.Decoded.the-variants.{Refused, Entry}
 use Rattle.entry.specs.declared.decoding.Part.{Part}
 use Rattle.entry.specs.declared.decoding.Part.the-variants.{Fails, At}
+use Rattle.entry.specs.declared.decoding.Pair.{Pair}
+use Rattle.entry.specs.declared.decoding.Pair.the-variants.{Lacks, Has}
 
 -- the bytes at a place, and the place's end
 abbrev pub bytesAt : List ℕ → Place → List ℕ
@@ -39,20 +41,27 @@ ifUtf8 s (At p) = cond (isUtf8 (bytesAt s p)) (At p) Fails
 unfoldable pub keyAt : List ℕ → ℕ → Part
 keyAt s at = ifUtf8 s (partAt s at)
 
--- a part that fails refuses the whole
-abbrev pub then : Part → (Place → Decoded) → Decoded
-then Fails go = Refused
-then (At p) go = go p
+-- a part that fails makes the whole fail
+abbrev pub then : {A : Type 0} → A → Part → (Place → A) → A
+then fails Fails go = fails
+then fails (At p) go = go p
 
--- "Insert key, value", "Delete key, old value": a key, and one part behind it
+-- a key, and one part behind it
+unfoldable pub pairAt : List ℕ → Pair
+pairAt s = then Lacks (keyAt s fixedLength) (λ key. then Lacks (partAt s (endOf key)) (Has key))
+
+abbrev pub thenPair : Pair → (Place → Place → Decoded) → Decoded
+thenPair Lacks go = Refused
+thenPair (Has key part) go = go key part
+
+-- "Insert key, value", "Delete key, old value"
 unfoldable pub keyAndPart : List ℕ → (Place → Place → WalEntry) → Decoded
-keyAndPart s entry =
-    then (keyAt s fixedLength) (λ key. then (partAt s (endOf key)) (λ part. Entry (entry key part) (endOf part)))
+keyAndPart s entry = thenPair (pairAt s) (λ key part. Entry (entry key part) (endOf part))
 
 -- "Update key, old value, new value"
 unfoldable pub updateAt : List ℕ → ℕ → ℕ → Decoded
 updateAt s tx time =
-    then (keyAt s fixedLength) (λ key. then (partAt s (endOf key)) (λ old. then (partAt s (endOf old)) (λ new. Entry (Update tx time key old new) (endOf new))))
+    thenPair (pairAt s) (λ key old. then Refused (partAt s (endOf old)) (λ new. Entry (Update tx time key old new) (endOf new)))
 
 abbrev pub bodyAt : List ℕ → (kind tx time : ℕ) → Decoded
 bodyAt s kind tx time =

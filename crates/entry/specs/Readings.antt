@@ -14,7 +14,7 @@ use Rattle.payload.specs.Content.{insert, commit, fixedBytes, partBytes, payloa
 use Rattle.payload.specs.Encode.{asked, encoding, putOf, encodeOf}
 use Rattle.payload.specs.declared.Encoded.the-variants.{Written, NotWellFormed, NoRoom}
 use Rattle.utf8.specs.Grammar.{isUtf8, completes, any, after, begun, utf8-char, utf8-1, utf8-2, utf8-3, utf8-4, tail}
-use Rattle.entry.specs.Decode.{partAt, decodeOf, keyAndPart, keyAt}
+use Rattle.entry.specs.Decode.{partAt, decodeOf, keyAndPart, pairAt, keyAt}
 use Rattle.entry.specs.declared.WalEntry.the-variants.{Commit}
 use Rattle.entry.specs.declared.decoding.Decoded.the-variants.{Refused, Entry}
 
@@ -63,12 +63,12 @@ too-short = refl
 
 -- a key's length of 2^64 - 1
 endless-key : decodeOf (replicate 20 0 ++ (replicate 8 255 ++ (97 ∷ []))) ≡ Refused
-unfolding decodeOf leOf byKind keyAndPart keyAt partAt
+unfolding decodeOf leOf byKind keyAndPart pairAt keyAt partAt
 endless-key = refl
 
 -- a key that is not UTF-8
 key-not-utf8 : decodeOf (payloadOf 1 5 (insert (255 ∷ []) (9 ∷ []))) ≡ Refused
-unfolding payloadOf fixedBytes partBytes leBytes decodeOf leOf byKind keyAndPart keyAt partAt isUtf8 completes any after begun utf8-char utf8-1 utf8-2 utf8-3 utf8-4 tail
+unfolding payloadOf fixedBytes partBytes leBytes decodeOf leOf byKind keyAndPart pairAt keyAt partAt isUtf8 completes any after begun utf8-char utf8-1 utf8-2 utf8-3 utf8-4 tail
 key-not-utf8 = refl
 
 -- "Key of 64 and value of 252 fit; 65 and 253 are refused."

@@ -9,12 +9,11 @@ use payload::kind::DELETE;
 use payload::kind::INSERT;
 use payload::kind::UPDATE;
 ghost use mathlib.Core.Path.{_≡_};
-ghost use mathlib.Core.Bool.{cond};
 ghost use Prim.Native.Nat.{_≤_};
 ghost use lib.ListN.{length};
 ghost use Rattle.payload.specs.Content.{fixedLength};
 ghost use Rattle.entry.specs.declared.WalEntry.the-variants.{Insert, Delete};
-ghost use Rattle.entry.specs.Decode.{partAt, keyAt, keyAndPart, updateAt, decodeOf};
+ghost use Rattle.entry.specs.Decode.{partAt, keyAt, pairAt, keyAndPart, updateAt, decodeOf};
 
 // A refusal is unnumbered. `used` is how many bytes the entry took: bytes left over are allowed.
 pub enum Decoded {
@@ -25,6 +24,11 @@ pub enum Decoded {
 pub(crate) enum Part {
     Fails,
     At(Place),
+}
+
+pub(crate) enum Pair {
+    Lacks,
+    Has { key: Place, part: Place },
 }
 
 // "A key or value is an 8-byte length and its bytes." The length is compared with what is left: nothing is added first.
@@ -62,47 +66,46 @@ fn key_at(payload: &[u8], at: usize) -> Part
     }
 }
 
-// A delete's key and old value, or an insert's key and value.
-fn key_and_part(payload: &[u8], deletes: bool, tx_id: u64, timestamp: u64) -> Decoded
+// A key, and one part behind it: an insert's and a delete's parts, and an update's first two.
+fn pair_at(payload: &[u8]) -> Pair
     requires { ⌜ fixedLength ≤ length (now payload) ⌝ }
-    ensures { λ r. ⌜ r ≡ keyAndPart (now (payload .entry)) (cond deletes (Delete «tx_id» timestamp) (Insert «tx_id» timestamp)) ⌝ }
+    ensures { λ r. ⌜ r ≡ pairAt (now (payload .entry)) ⌝ }
 {
     let Part::At(key) = key_at(payload, FIXED) else {
+        return Pair::Lacks;
+    };
+    let Part::At(part) = part_at(payload, key.start + key.len) else {
+        return Pair::Lacks;
+    };
+    Pair::Has { key, part }
+}
+
+fn insert(payload: &[u8], tx_id: u64, timestamp: u64) -> Decoded
+    requires { ⌜ fixedLength ≤ length (now payload) ⌝ }
+    ensures { λ r. ⌜ r ≡ keyAndPart (now (payload .entry)) (Insert «tx_id» timestamp) ⌝ }
+{
+    let Pair::Has { key, part } = pair_at(payload) else {
         return Decoded::Refused;
     };
-    let Part::At(value) = part_at(payload, key.start + key.len) else {
-        return Decoded::Refused;
-    };
-    let used = value.start + value.len;
-    if deletes {
-        let entry = WalEntry::Delete {
+    Decoded::Entry {
+        entry: WalEntry::Insert {
             tx_id,
             timestamp,
             key,
-            old_value: value,
-        };
-        return Decoded::Entry { entry, used };
+            value: part,
+        },
+        used: part.start + part.len,
     }
-    let entry = WalEntry::Insert {
-        tx_id,
-        timestamp,
-        key,
-        value,
-    };
-    Decoded::Entry { entry, used }
 }
 
 fn update(payload: &[u8], tx_id: u64, timestamp: u64) -> Decoded
     requires { ⌜ fixedLength ≤ length (now payload) ⌝ }
     ensures { λ r. ⌜ r ≡ updateAt (now (payload .entry)) «tx_id» timestamp ⌝ }
 {
-    let Part::At(key) = key_at(payload, FIXED) else {
+    let Pair::Has { key, part } = pair_at(payload) else {
         return Decoded::Refused;
     };
-    let Part::At(old_value) = part_at(payload, key.start + key.len) else {
-        return Decoded::Refused;
-    };
-    let Part::At(new_value) = part_at(payload, old_value.start + old_value.len) else {
+    let Part::At(new_value) = part_at(payload, part.start + part.len) else {
         return Decoded::Refused;
     };
     Decoded::Entry {
@@ -110,10 +113,28 @@ fn update(payload: &[u8], tx_id: u64, timestamp: u64) -> Decoded
             tx_id,
             timestamp,
             key,
-            old_value,
+            old_value: part,
             new_value,
         },
         used: new_value.start + new_value.len,
+    }
+}
+
+fn delete(payload: &[u8], tx_id: u64, timestamp: u64) -> Decoded
+    requires { ⌜ fixedLength ≤ length (now payload) ⌝ }
+    ensures { λ r. ⌜ r ≡ keyAndPart (now (payload .entry)) (Delete «tx_id» timestamp) ⌝ }
+{
+    let Pair::Has { key, part } = pair_at(payload) else {
+        return Decoded::Refused;
+    };
+    Decoded::Entry {
+        entry: WalEntry::Delete {
+            tx_id,
+            timestamp,
+            key,
+            old_value: part,
+        },
+        used: part.start + part.len,
     }
 }
 
@@ -127,9 +148,9 @@ pub fn decode(payload: &[u8]) -> Decoded
     let tx_id = fields::get_u64(payload, 4);
     let timestamp = fields::get_u64(payload, 12);
     match kind {
-        INSERT => key_and_part(payload, false, tx_id, timestamp),
+        INSERT => insert(payload, tx_id, timestamp),
         UPDATE => update(payload, tx_id, timestamp),
-        DELETE => key_and_part(payload, true, tx_id, timestamp),
+        DELETE => delete(payload, tx_id, timestamp),
         COMMIT => Decoded::Entry {
             entry: WalEntry::Commit { tx_id, timestamp },
             used: FIXED,

@@ -10,7 +10,7 @@ use Rattle.utf8.specs.Grammar.{isUtf8, completes, any, after, begun, utf8-char,
 use Rattle.header.specs.Header.{headerOf, headerBytes, entryBytes, headerAt, validFor}
 use Rattle.payload.specs.Kind.{byKind}
 use Rattle.payload.specs.Content.{fixedBytes, partBytes, payloadOf}
-use Rattle.entry.specs.Decode.{partAt, keyAt, keyAndPart, decodeOf}
+use Rattle.entry.specs.Decode.{partAt, keyAt, pairAt, keyAndPart, decodeOf}
 use Rattle.entry.specs.declared.WalEntry.the-variants.{Commit}
 use Rattle.scan.specs.Step.{judgeOf, stepFrom, stepAt}
 use Rattle.scan.specs.declared.Step.the-variants.{Entry, End, Torn}
@@ -19,7 +19,7 @@ use Rattle.ringwal.specs.Readings.{insertThenCommit}
 
 -- from the first byte to the end, and again at the end
 offsets : map (λ (at : ℕ). walkedAt insertThenCommit at .at) (0 ∷ 51 ∷ 84 ∷ []) ≡ 51 ∷ 84 ∷ 84 ∷ []
-unfolding insertThenCommit walkedAt stepAt stepFrom judgeOf entryBytes payloadOf fixedBytes partBytes headerBytes headerOf headerAt validFor leBytes leOf crc32Of register byteStep bitSteps bitStep decodeOf byKind keyAndPart keyAt partAt isUtf8 completes any after begun utf8-char utf8-1 utf8-2 utf8-3 utf8-4 tail
+unfolding insertThenCommit walkedAt stepAt stepFrom judgeOf entryBytes payloadOf fixedBytes partBytes headerBytes headerOf headerAt validFor leBytes leOf crc32Of register byteStep bitSteps bitStep decodeOf byKind keyAndPart pairAt keyAt partAt isUtf8 completes any after begun utf8-char utf8-1 utf8-2 utf8-3 utf8-4 tail
 offsets = refl
 
 -- one entry a call

@@ -11,7 +11,7 @@ use Rattle.utf8.specs.Grammar.{isUtf8, completes, any, after, utf8-char, utf8-1
 use Rattle.header.specs.Header.{headerOf, headerBytes, entryBytes, headerAt, validFor}
 use Rattle.payload.specs.Kind.{byKind}
 use Rattle.payload.specs.Content.{Content, insert, commit, abort, fixedBytes, partBytes, payloadOf}
-use Rattle.entry.specs.Decode.{partAt, keyAt, keyAndPart, decodeOf}
+use Rattle.entry.specs.Decode.{partAt, keyAt, pairAt, keyAndPart, decodeOf}
 use Rattle.records.specs.Sorted.{compareNumbers, put}
 use Rattle.records.specs.Dense.{dense, bytesOf}
 use Rattle.directory.specs.Image.{segmentBytes}
@@ -104,5 +104,5 @@ benchReadings =
 
 -- every reading is what the definitions compute
 pub readings : map (λ (r : Reading). answerTo (r .question)) benchReadings ≡ map (λ (r : Reading). r .answer) benchReadings
-unfolding benchReadings insertThenCommit commitThenAbort endless recovering recoverOf listsTestOf testOf fitsOf directoryRule ruleFrom followsOf liesOf recordsOf recordAt recordBytes readLog segmentBytes readInto transactionsOf noteAll note put compareNumbers noted begun transactionBytes dense bytesOf recoveredOf statsOf tallyOf highestIn nextOf entryBytes payloadOf fixedBytes partBytes headerBytes headerOf leBytes readSegment readFrom walkFrom walk stepFrom judgeOf headerAt validFor leOf crc32Of register byteStep bitSteps bitStep decodeOf byKind keyAndPart keyAt partAt isUtf8 completes any after Utf8.begun utf8-char utf8-1 utf8-2 utf8-3 utf8-4 tail
+unfolding benchReadings insertThenCommit commitThenAbort endless recovering recoverOf listsTestOf testOf fitsOf directoryRule ruleFrom followsOf liesOf recordsOf recordAt recordBytes readLog segmentBytes readInto transactionsOf noteAll note put compareNumbers noted begun transactionBytes dense bytesOf recoveredOf statsOf tallyOf highestIn nextOf entryBytes payloadOf fixedBytes partBytes headerBytes headerOf leBytes readSegment readFrom walkFrom walk stepFrom judgeOf headerAt validFor leOf crc32Of register byteStep bitSteps bitStep decodeOf byKind keyAndPart pairAt keyAt partAt isUtf8 completes any after Utf8.begun utf8-char utf8-1 utf8-2 utf8-3 utf8-4 tail
 readings = refl

@@ -10,7 +10,7 @@ use Rattle.utf8.specs.Grammar.{isUtf8, completes, any, after, begun, utf8-char,
 use Rattle.header.specs.Header.{headerOf, headerBytes, entryBytes, headerAt, validFor}
 use Rattle.payload.specs.Kind.{byKind}
 use Rattle.payload.specs.Content.{insert, commit, fixedBytes, partBytes, payloadOf}
-use Rattle.entry.specs.Decode.{partAt, keyAt, keyAndPart, decodeOf}
+use Rattle.entry.specs.Decode.{partAt, keyAt, pairAt, keyAndPart, decodeOf}
 use Rattle.entry.specs.declared.WalEntry.the-variants.{Insert, Commit}
 use Rattle.scan.specs.Step.{judgeOf, stepFrom, stepAt}
 use Rattle.scan.specs.Walk.{walk, walkFrom}
@@ -42,7 +42,7 @@ reading good partial checksum = record { good = good; partial = partial; checksu
 -- "P cuts: 84 committed 1; 83 incomplete 1, partial 1; 51 incomplete 1, partial 0; 50, 13, 12 and 1 total 0, partial 1;
 -- 0 all zero."
 cuts : map (λ n. readSegment (take n log)) (84 ∷ 83 ∷ 51 ∷ 50 ∷ 13 ∷ 12 ∷ 1 ∷ 0 ∷ []) ≡ reading (inserted ∷ committed ∷ []) 0 0 ∷ reading (inserted ∷ []) 1 0 ∷ reading (inserted ∷ []) 0 0 ∷ reading [] 1 0 ∷ reading [] 1 0 ∷ reading [] 1 0 ∷ reading [] 1 0 ∷ reading [] 0 0 ∷ []
-unfolding log entryBytes payloadOf fixedBytes partBytes headerBytes headerOf leBytes readSegment readFrom walkFrom walk stepFrom judgeOf headerAt validFor leOf crc32Of register byteStep bitSteps bitStep decodeOf byKind keyAndPart keyAt partAt isUtf8 completes any after begun utf8-char utf8-1 utf8-2 utf8-3 utf8-4 tail
+unfolding log entryBytes payloadOf fixedBytes partBytes headerBytes headerOf leBytes readSegment readFrom walkFrom walk stepFrom judgeOf headerAt validFor leOf crc32Of register byteStep bitSteps bitStep decodeOf byKind keyAndPart pairAt keyAt partAt isUtf8 completes any after begun utf8-char utf8-1 utf8-2 utf8-3 utf8-4 tail
 cuts = refl
 
 -- "a header length of 2^64 - 1 is a partial write"

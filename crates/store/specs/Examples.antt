@@ -12,7 +12,7 @@ use Rattle.utf8.specs.Grammar as Utf8
 use Rattle.utf8.specs.Grammar.{isUtf8, completes, any, after, utf8-char, utf8-1, utf8-2, utf8-3, utf8-4, tail}
 use Rattle.payload.specs.Kind.{byKind}
 use Rattle.payload.specs.Content.{Content, insert, update, delete, commit, abort, kindNumber, fixedBytes, partBytes, payloadOf}
-use Rattle.entry.specs.Decode.{partAt, keyAt, keyAndPart, updateAt, decodeOf, contentAt}
+use Rattle.entry.specs.Decode.{partAt, keyAt, pairAt, keyAndPart, updateAt, decodeOf, contentAt}
 use Rattle.records.specs.Sorted.{compareNumbers, put, remove}
 use Rattle.lists.specs.Transactions.{noted, begun, note, noteAll, transactionsOf}
 use Rattle.lists.specs.declared.entries.EntryRecord.{EntryRecord}
@@ -90,7 +90,7 @@ record Examples : Type 0 where
   absent : ran 1 (by 1 (insert a []) ∷ by 1 (delete long []) ∷ by 1 (delete b []) ∷ by 1 commit ∷ []) ≡ accepted (rowOf a [] ∷ [])
 
 examples : Examples
-unfolding areaOf listFrom ran runOf changedBy effectIn effectOf leftOf leftBy replayed replayOrder committedOf entriesInTurn entriesOf transactionsOf noteAll note put remove compareNumbers noted begun payloadIn payloadOf fixedBytes partBytes leBytes leOf decodeOf byKind keyAndPart updateAt keyAt partAt contentAt isUtf8 completes any after Utf8.begun utf8-char utf8-1 utf8-2 utf8-3 utf8-4 tail setIn fits set removeKey compareBytes sameBytes
+unfolding areaOf listFrom ran runOf changedBy effectIn effectOf leftOf leftBy replayed replayOrder committedOf entriesInTurn entriesOf transactionsOf noteAll note put remove compareNumbers noted begun payloadIn payloadOf fixedBytes partBytes leBytes leOf decodeOf byKind keyAndPart pairAt updateAt keyAt partAt contentAt isUtf8 completes any after Utf8.begun utf8-char utf8-1 utf8-2 utf8-3 utf8-4 tail setIn fits set removeKey compareBytes sameBytes
 examples =
     record {
       higher-number-last = refl;

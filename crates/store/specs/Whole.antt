@@ -13,7 +13,7 @@ use Rattle.utf8.specs.Grammar.{isUtf8, completes, any, after, utf8-char, utf8-1
 use Rattle.header.specs.Header.{headerOf, headerBytes, entryBytes, headerAt, validFor}
 use Rattle.payload.specs.Kind.{byKind}
 use Rattle.payload.specs.Content.{insert, commit, fixedBytes, partBytes, payloadOf}
-use Rattle.entry.specs.Decode.{partAt, keyAt, keyAndPart, updateAt, decodeOf, contentAt}
+use Rattle.entry.specs.Decode.{partAt, keyAt, pairAt, keyAndPart, updateAt, decodeOf, contentAt}
 use Rattle.records.specs.Dense.{bytesOf, dense}
 use Rattle.records.specs.Sorted.{compareNumbers, put, remove}
 use Rattle.directory.specs.Image.{segmentBytes}
@@ -60,5 +60,5 @@ record Examples : Type 0 where
   one : replayOne 321 [] ≡ record { answer = refused 1; entries = replicate 128 5; transactions = replicate 48 6; table = replicate 321 7 }
 
 examples : Examples
-unfolding replayOne imageOf replayOf runOf changedBy effectIn effectOf replayed replayOrder committedOf entriesInTurn entriesOf payloadIn contentAt setIn fits set removeKey remove compareBytes markedBytes padded dense bytesOf entryRecordBytes transactionBytes recoverOf listsTestOf testOf fitsOf directoryRule ruleFrom followsOf liesOf recordsOf recordAt recordBytes readLog segmentBytes readInto transactionsOf noteAll note put compareNumbers noted begun recoveredOf statsOf tallyOf highestIn nextOf entryBytes payloadOf fixedBytes partBytes headerBytes headerOf leBytes readSegment readFrom walkFrom walk stepFrom judgeOf headerAt validFor leOf crc32Of register byteStep bitSteps bitStep decodeOf byKind keyAndPart updateAt keyAt partAt isUtf8 completes any after Utf8.begun utf8-char utf8-1 utf8-2 utf8-3 utf8-4 tail
+unfolding replayOne imageOf replayOf runOf changedBy effectIn effectOf replayed replayOrder committedOf entriesInTurn entriesOf payloadIn contentAt setIn fits set removeKey remove compareBytes markedBytes padded dense bytesOf entryRecordBytes transactionBytes recoverOf listsTestOf testOf fitsOf directoryRule ruleFrom followsOf liesOf recordsOf recordAt recordBytes readLog segmentBytes readInto transactionsOf noteAll note put compareNumbers noted begun recoveredOf statsOf tallyOf highestIn nextOf entryBytes payloadOf fixedBytes partBytes headerBytes headerOf leBytes readSegment readFrom walkFrom walk stepFrom judgeOf headerAt validFor leOf crc32Of register byteStep bitSteps bitStep decodeOf byKind keyAndPart pairAt updateAt keyAt partAt isUtf8 completes any after Utf8.begun utf8-char utf8-1 utf8-2 utf8-3 utf8-4 tail
 examples = record { overlap = refl; nine = refl; one = refl }

@@ -23,18 +23,18 @@ get-u64-requires c κs = search needs
 get-u64-requires-2 : tie.Need-get-u64-requires-2
 get-u64-requires-2 c κs = search needs
 
-key-and-part-requires : tie.Need-key-and-part-requires
-key-and-part-requires c κs = search needs
+insert-requires : tie.Need-insert-requires
+insert-requires c κs = search needs
 
 update-requires : tie.Need-update-requires
 update-requires c κs = search needs
 
-key-and-part-requires-2 : tie.Need-key-and-part-requires-2
-key-and-part-requires-2 c κs = search needs
+delete-requires : tie.Need-delete-requires
+delete-requires c κs = search needs
 
 returns-2 : tie.Need-returns-2
 unfolding decodeOf byKind
-returns-2 c = rw (le-leb _ _ (c .before .before .before .before .before .if1 .left), ← c .before .before .before .before .get-le .ensures, ← c .before .before .before .get-u64 .ensures, ← c .before .before .get-u642 .ensures, c .before .match .keys1) (c .key-and-part .ensures)
+returns-2 c = rw (le-leb _ _ (c .before .before .before .before .before .if1 .left), ← c .before .before .before .before .get-le .ensures, ← c .before .before .before .get-u64 .ensures, ← c .before .before .get-u642 .ensures, c .before .match .keys1) (c .insert .ensures)
 
 returns-3 : tie.Need-returns-3
 unfolding decodeOf byKind
@@ -42,7 +42,7 @@ returns-3 c = rw (le-leb _ _ (c .before .before .before .before .before .if1 .le
 
 returns-4 : tie.Need-returns-4
 unfolding decodeOf byKind
-returns-4 c = rw (le-leb _ _ (c .before .before .before .before .before .if1 .left), ← c .before .before .before .before .get-le .ensures, ← c .before .before .before .get-u64 .ensures, ← c .before .before .get-u642 .ensures, c .before .match .keys3) (c .key-and-part2 .ensures)
+returns-4 c = rw (le-leb _ _ (c .before .before .before .before .before .if1 .left), ← c .before .before .before .before .get-le .ensures, ← c .before .before .before .get-u64 .ensures, ← c .before .before .get-u642 .ensures, c .before .match .keys3) (c .delete .ensures)
 
 returns-5 : tie.Need-returns-5
 unfolding decodeOf byKind
@@ -67,9 +67,9 @@ decode-spec =
     get-le-requires
     get-u64-requires
     get-u64-requires-2
-    key-and-part-requires
+    insert-requires
     update-requires
-    key-and-part-requires-2
+    delete-requires
     returns-2
     returns-3
     returns-4
