@@ -130,8 +130,9 @@ struct ringwal_writer ringwal_new(uint64_t max_segment_size);
 /* The same with the default bound, 49,152 bytes. */
 struct ringwal_writer ringwal_with_default_size(void);
 
-/* Opening adds an empty segment: id 1 at 0 for an empty directory, else last id plus one, at the last end. A new segment
- * takes the next directory record and leaves those after it. Refused with 1, 2, 4, 5. */
+/* Open before the first append of each run: a new segment stands behind a torn end, and recovery would not find an entry that
+ * was appended to one. Opening adds an empty segment: id 1 at 0 for an empty directory, else last id plus one, at the last
+ * end. A new segment takes the next directory record and leaves those after it. Refused with 1, 2, 4, 5. */
 struct ringwal_open_answer ringwal_open(struct ringwal_writer writer,
     const uint8_t *area, size_t area_len,
     uint8_t *directory, size_t directory_len, size_t *used);

@@ -18,11 +18,11 @@ use Rattle.scan.proofs.Walks.{read-end}
 use Rattle.scan.proofs.Written.{placeBehind, read-whole, read-torn}
 use Rattle.lists.specs.Entries.{listed}
 use Rattle.recovery.specs.Log.{LogRead, listedFrom}
-use Rattle.crash.specs.Write.{Request, encoded, Written}
-use Rattle.crash.specs.Kept.{keptBy, isInside, listedAs, readUpTo}
-use Rattle.crash.proofs.Laid.{imageOf, writtenFrom, Accepted}
+use Rattle.crash.specs.Request.{Request, encoded, Written}
+use Rattle.crash.specs.Kept.{keptBy, tornBy, listedAs}
+use Rattle.crash.proofs.Images.{Accepted, imageOf, writtenFrom}
 use Rattle.crash.proofs.Payloads.{ReadBack, accepted-back}
-use Rattle.crash.proofs.Lefts.{entryThen, left-whole, left-behind, left-torn}
+use Rattle.crash.proofs.Lefts.{readUpTo, entryThen, left-whole, left-behind, left-torn}
 
 -- a segment's reading, with its places from the area's first byte
 abbrev pub placedAt : (base : ℕ) → Reading → LogRead
@@ -88,7 +88,7 @@ module _ (base : ℕ) (before : List ℕ) (at : ℕ) (here : base + length befor
       caseB (leb n 0) (λ z. none-left (omega (arith, leb-true n 0 z))) (λ z. torn-left (leb-false n 0 z) h))
 
 read-left : (base : ℕ) (before : List ℕ) (at : ℕ) (rs : List Request) (n : ℕ) → base + length before ≡ at → All Accepted rs → placedAt base (readFrom (before ++ take n (imageOf rs)) (length before)) ≡ readUpTo (at + n) (writtenFrom at rs)
-read-left base before at [] n here a = unfold imageOf writtenFrom readUpTo keptBy isInside in rw (take-nil n, nothing-read before)
+read-left base before at [] n here a = unfold imageOf writtenFrom readUpTo keptBy tornBy in rw (take-nil n, nothing-read before)
 read-left base before at (r ∷ rs) n here a =
     let p = encoded r in
     let m = 13 + length p in

@@ -1,60 +1,94 @@
--- What recovery and replay give of a log whose reading is known.
+-- What recovery and replay give of a log that consists of segments.
 -- Assumes nothing.
 use Prim.Native.Nat.{ℕ, _/_, _≤_}
-use mathlib.Core.Path.{_≡_, refl, _∙_}
+use mathlib.Core.Path.{_≡_, refl, ap, _∙_}
 use mathlib.Core.List.{List, [], _∷_}
+use native.Mathlib.Omega.{arith}
 use borrow.Author.Tests.{le-leb}
-use lib.ListN.{length}
+use lib.ListN.{length, length-map}
 use Rattle.refusal.specs.Answer.{accepted}
-use Rattle.refusal.specs.Answer.{sound}
+use Rattle.records.specs.Dense.{All}
 use Rattle.directory.specs.Record.{recordsOf}
-use Rattle.directory.specs.Rule.{testOf}
 use Rattle.lists.specs.Transactions.{transactionsOf}
+use Rattle.table.specs.Table.{tableOf}
 use Rattle.recovery.specs.Log.{LogRead, readLog}
-use Rattle.recovery.specs.Recover.{recoveredOf, listing, readInto, listsTestOf, recoverOf}
+use Rattle.recovery.specs.Recover.{statsOf, recoveredOf, listing, readInto, listsTestOf, recoverOf}
 use Rattle.recovery.proofs.Accepts.{Accepted}
-use Rattle.store.specs.Order.{replayed}
+use Rattle.store.specs.Order.{replayOrder, replayed}
 use Rattle.store.specs.Change.{runOf}
-use Rattle.store.specs.Replay.{replayOf}
+use Rattle.store.proofs.Committed.{order-exactly}
 use Rattle.store.proofs.Replays.{replay-is}
-use Rattle.crash.specs.Write.{Written}
-use Rattle.crash.specs.Kept.{keptBy, listedAll, readUpTo}
-use Rattle.crash.specs.Settings.{settingsOf}
-use Rattle.crash.specs.Cut.{Enough, recoveredFrom, replayedFrom}
+use Rattle.crash.specs.Request.{Written}
+use Rattle.crash.specs.Kept.{listedAs, listedAll}
+use Rattle.crash.specs.Life.{Held}
+use Rattle.crash.specs.Settings.{runNumbers}
+use Rattle.crash.specs.Crash.{Lent, Enough, recovering, replaying, IsStored, Follows}
+use Rattle.crash.proofs.Segments.{Segment, leftOf, tornOf, Holds}
+use Rattle.crash.proofs.Listings.{readAs, segments-read, segments-kept}
+use Rattle.crash.proofs.Holdings.{Kept}
+use Rattle.crash.proofs.Rooms.{numbers-most}
+use Rattle.crash.proofs.Orders.{order-ascending}
+use Rattle.crash.proofs.Settles.{settled}
 
-listed-length : (ws : List Written) → length (listedAll ws) ≡ length ws
-listed-length [] = refl
-listed-length (w ∷ ws) = rw (listed-length ws)
+stored-all : (area : List ℕ) (ws : List Written) → All (Kept area) ws → All (IsStored area) ws
+stored-all area [] ks = tt
+stored-all area (w ∷ ws) ks = (ks .0 .payload, stored-all area ws (ks .1))
 
-module _ (cut : ℕ) (ws : List Written) (area directory : List ℕ) (used : ℕ) (entries transactions table : List ℕ) where
+module _ (h : Held) (ss : List Segment) (holds : Holds h ss) (lent : Lent) (enough : Enough (leftOf ss) lent) where
   abbrev kept : List Written
-  kept = keptBy cut ws
+  kept = leftOf ss
 
   abbrev log : LogRead
-  log = readLog area (recordsOf used directory)
+  log = readLog (h .area) (recordsOf (h .used) (h .directory))
 
-  module _ (s : testOf (length area) directory used ≡ sound) (read : log ≡ readUpTo cut ws) (enough : Enough kept entries transactions table) where
-    entries-fit : length (log .entries) ≤ length entries / 32
-    unfolding readUpTo
-    entries-fit = rw (read, listed-length kept) (enough .entry-records)
+  read-is : log ≡ readAs kept (length (tornOf ss))
+  read-is = ap (readLog (h .area)) (holds .records) ∙ segments-read (h .area) ss (holds .stand)
 
-    transactions-fit : length (transactionsOf (log .entries)) ≤ length transactions / 24
-    unfolding readUpTo
-    transactions-fit = rw read (enough .transaction-records)
+  entries-fit : length (log .entries) ≤ length (lent .entries) / 32
+  entries-fit = rw (read-is, length-map kept listedAs) (enough .every-entry)
 
-    recovers : recoverOf area directory used entries transactions ≡ listing log (length entries) (length transactions)
-    unfolding recoverOf readInto listsTestOf
-    recovers =
-        rw (enough .entry-list, enough .transaction-list, s, le-leb _ (length entries / 32) entries-fit, le-leb _ (length transactions / 24) transactions-fit)
+  numbers-fit : length (transactionsOf (log .entries)) ≤ length (lent .transactions) / 24
+  numbers-fit = rw read-is (omega (arith, numbers-most kept, enough .every-number))
 
-    pub recovers-kept : recoverOf area directory used entries transactions ≡ recoveredFrom cut ws (length entries) (length transactions)
-    unfolding recoveredFrom readUpTo
-    recovers-kept = recovers ∙ rw read
+  recovers : recovering h lent ≡ listing log (length (lent .entries)) (length (lent .transactions))
+  unfolding recoverOf readInto listsTestOf
+  recovers =
+      rw (enough .entry-list, enough .transaction-list, holds .sound, le-leb _ (length (lent .entries) / 32) entries-fit, le-leb _ (length (lent .transactions) / 24) numbers-fit)
 
-    pub replays-kept : runOf (length table / 320) area (replayed (listedAll kept)) [] ≡ accepted (settingsOf kept) → replayOf area directory used entries transactions table ≡ replayedFrom cut ws (length entries) (length transactions) (length table)
-    unfolding replayedFrom recoveredFrom readUpTo
-    replays-kept run =
-        let a : Accepted area directory used entries transactions (recoveredOf log) =
-        record { sounds = s; entries-fit = entries-fit; transactions-fit = transactions-fit; values-are = refl; lists-are = recovers } in
-        let ran : runOf (length table / 320) area (replayed (log .entries)) [] ≡ accepted (settingsOf kept) = rw read run in
-        replay-is area directory used entries transactions table (recoveredOf log) (enough .table-fits) a (settingsOf kept) ran ∙ rw read
+  abbrev order : List ℕ
+  order = replayOrder (listedAll kept)
+
+  ran : runOf (length (lent .table) / 320) (h .area) (replayed (log .entries)) [] ≡ accepted (runNumbers order kept [])
+  ran =
+      rw read-is
+      (settled (h .area) kept (segments-kept (h .area) ss (holds .stand)) (length (lent .table) / 320) (enough .every-key))
+
+  replays : replaying h lent
+      ≡ record {
+        answer = recovering h lent .answer;
+        entries = recovering h lent .entries;
+        transactions = recovering h lent .transactions;
+        table = tableOf (length (lent .table)) (runNumbers order kept []);
+      }
+  replays =
+      let a : Accepted (h .area) (h .directory) (h .used) (lent .entries) (lent .transactions) (recoveredOf log) =
+      record { sounds = holds .sound; entries-fit = entries-fit; transactions-fit = numbers-fit; values-are = refl; lists-are = recovers } in
+      replay-is (h .area) (h .directory) (h .used) (lent .entries) (lent .transactions) (lent .table) (recoveredOf log) (enough .table-fits) a (runNumbers order kept []) ran
+      ∙ rw recovers
+
+  pub holds-follows : Follows h (leftOf ss) (length (tornOf ss)) lent
+  unfolding recoveredOf statsOf
+  holds-follows =
+      record {
+        values = recoveredOf (readAs kept (length (tornOf ss)));
+        recovery = recovers ∙ rw read-is;
+        entry-count = length-map kept listedAs;
+        payloads = stored-all (h .area) kept (segments-kept (h .area) ss (holds .stand));
+        no-checksum = refl;
+        partials = refl;
+        others = refl;
+        order = order;
+        committed = λ number. order-exactly number (listedAll kept);
+        ascending = order-ascending (listedAll kept);
+        replay = replays;
+      }

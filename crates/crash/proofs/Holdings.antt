@@ -15,12 +15,12 @@ use Rattle.header.specs.Header.{headerOf, headerBytes, entryBytes}
 use Rattle.header.proofs.Laws.{header-length}
 use Rattle.segment.proofs.Logs.{entry-length}
 use Rattle.recovery.specs.Payload.{payloadIn}
-use Rattle.crash.specs.Write.{Request, encoded, Written}
+use Rattle.crash.specs.Request.{Request, encoded, Written}
 use Rattle.crash.specs.Kept.{keptBy, listedAs}
-use Rattle.crash.proofs.Laid.{imageOf, writtenFrom, Accepted, Kept}
+use Rattle.crash.proofs.Images.{Accepted, imageOf, writtenFrom}
 use Rattle.crash.proofs.Lefts.{kept-whole, kept-not}
 
-drop-take : (d m : ℕ) (l : List ℕ) → drop d (take m l) ≡ take (m - d) (drop d l)
+pub drop-take : (d m : ℕ) (l : List ℕ) → drop d (take m l) ≡ take (m - d) (drop d l)
 drop-take zero m l = rw sub-zero
 drop-take (suc d) zero l = let e : 0 - suc d ≡ 0 = omega arith in rw e
 drop-take (suc d) (suc m) [] = rw take-nil
@@ -45,6 +45,11 @@ module _ (area : List ℕ) (cut at : ℕ) where
       record { same = rw (e, ← drop-drop d at area, ← drop-take d (cut - at) (drop at area), h .same) front }
 
 -- ---- the entries
+
+-- an accepted entry whose payload stands in the area where the entry list says
+pub record Kept (area : List ℕ) (w : Written) : Type 0 where
+  pub accepted : Accepted (w .request)
+  pub payload : payloadIn area (listedAs w) ≡ encoded (w .request)
 
 module _ (area : List ℕ) (cut at : ℕ) (r : Request) (rs : List Request) (holds : Holds area cut at (imageOf (r ∷ rs))) where
   abbrev written : Written

@@ -1,133 +1,148 @@
--- What an operator relies on, beside the theorem. The statements are `Everything` and `NoTrace` of specs/Operator.antt.
+-- What an operator relies on. The statements stand in specs/Operator.antt.
 -- Assumes nothing.
-use mathlib.Core.Path.{_≡_, refl, ap, sym, _∙_}
+use Prim.Native.Nat.{ℕ, _+_, _/_}
+use mathlib.Core.Path.{_≡_, sym, ap, _∙_}
 use mathlib.Core.Bool.{cond}
-use mathlib.Core.List.{List, [], _∷_, _++_}
-use mathlib.Core.Option.{Option, none, some}
-use Prim.Native.Nat.{ℕ, _+_}
-use native.Mathlib.Omega.{arith}
-use borrow.Author.Tests.{leb-true, leb-false}
-use lib.Dec.{leb}
+use mathlib.Core.List.{List, [], _∷_, _++_, map}
 use lib.ListN.{length}
-use Rattle.fields.proofs.Cases.{caseB}
 use Rattle.records.specs.Dense.{All}
-use Rattle.recovery.specs.Recover.{recoveredOf, statsOf}
-use Rattle.crash.specs.Write.{Request, encoded, Held, Written, lastWritten, WrittenLog, withFirst, ifAccepted, appendTo, appendAll, openWith, ifOpened, writeLog, Typed}
-use Rattle.crash.specs.Kept.{keptBy, isInside, readUpTo}
-use Rattle.crash.specs.Cut.{Enough, recoveredFrom, replayedFrom}
-use Rattle.crash.specs.Crash.{Story, cutOf, Given}
-use Rattle.crash.specs.Operator.{recoveredAll, replayedAll, Everything, recoveringWith, replayingWith, NoTrace}
-use Rattle.crash.proofs.Laid.{writtenFrom}
-use Rattle.crash.proofs.Lefts.{kept-whole, kept-not, kept-behind}
-use Rattle.crash.proofs.Writes.{first-says, written-laid}
-use Rattle.crash.proofs.Cuts.{all-parts}
-use Rattle.crash.proofs.Uncut.{requests-back, recovers-all, replays-all}
-use Rattle.crash.proofs.Crash.{crash-cut}
+use Rattle.table.specs.Row.{Row}
+use Rattle.table.specs.Table.{lookup, tableOf, liveRows}
+use Rattle.table.specs.Table as Tables
+use Rattle.table.proofs.Tables.{table-length}
+use Rattle.table.proofs.Live.{live-back}
+use Rattle.recovery.specs.Recover.{Recovering}
+use Rattle.store.specs.Replay.{Replaying}
+use Rattle.crash.specs.Request.{Request, Written}
+use Rattle.crash.specs.Kept.{keptBy, isInside}
+use Rattle.crash.specs.Life.{Life, empty, segmentIn, cutBy, opens, appends, Lives}
+use Rattle.crash.specs.Settings.{runNumbers}
+use Rattle.crash.specs.Crash.{Lent, Enough, replaying, Follows, Story, Given, cutOf, Demand3, History, Lived, AnyHistory}
+use Rattle.crash.specs.Operator.{rowsIn, valueIn, Relies, requestOf, Everything, NothingLost, NoTrace}
+use Rattle.crash.proofs.Holdings.{Kept}
+use Rattle.crash.proofs.Lefts.{inside-torn}
+use Rattle.crash.proofs.Segments.{Segment, Consists}
+use Rattle.crash.proofs.Listings.{segments-kept}
+use Rattle.crash.proofs.Settles.{settled-held}
+use Rattle.crash.proofs.Orders.{table-is}
+use Rattle.crash.proofs.Opens.{opening-entries}
+use Rattle.crash.proofs.CutLogs.{cutting-consists, nothing-lost}
+use Rattle.crash.proofs.Lives.{HasSegments, begun-consists, run-torn}
+use Rattle.crash.proofs.Rooms.{enough-kept}
+use Rattle.crash.proofs.Crash.{demand-3, any-history}
+use Rattle.crash.proofs.Touches.{last-touches, one-decides, unnamed-absent}
+use Rattle.crash.proofs.Sources.{rows-source}
+use Rattle.crash.proofs.Beginnings.{entries-rise, appends-add, begins}
 
--- ---- "cutting nothing gives everything"
+-- ---- the table of a log that consists of segments
 
-module _ (bound : ℕ) (area directory : List ℕ) (rs : List Request) (log : WrittenLog) (typed : All Typed rs) (written : writeLog bound area directory rs ≡ some log) where
-  -- the entries of a written log are those that were asked for
-  written-entries : log .entries ≡ writtenFrom 0 rs
-  written-entries =
-      let l = written-laid bound area directory rs log typed written in
-      l .1 .0 .entries ∙ ap (writtenFrom 0) (l .1 .1)
+module _ (l : Life) (ss : List Segment) (lent : Lent) (c : Consists l ss) (enough : Enough (l .entries) lent) where
+  module _ (partial : ℕ) (f : Follows (l .held) (l .entries) partial lent) where
+    abbrev rows : List Row
+    rows = runNumbers (f .order) (l .entries) []
 
-  pub nothing-cut : (entries transactions table : List ℕ) → Enough (log .entries) entries transactions table → Everything rs log entries transactions table
-  nothing-cut entries transactions table enough =
-      let l = written-laid bound area directory rs log typed written in
-      record {
-        asked = rw written-entries (requests-back 0 rs);
-        recovery = recovers-all log (l .0) (l .1 .0) entries transactions table enough;
-        replay = replays-all log (l .0) (l .1 .0) entries transactions table enough;
-      }
+    rows-held : Tables.Held (length (lent .table)) rows
+    rows-held =
+        let kept : All (Kept (l .held .area)) (l .entries) = rw (c .entries) (segments-kept (l .held .area) ss (c .holds .stand)) in
+        settled-held (l .held .area) (l .entries) kept (length (lent .table)) (f .order) (enough .every-key)
 
--- ---- the entries before the cut
+    table-of : replaying (l .held) lent .table ≡ tableOf (length (lent .table)) rows
+    table-of = ap (λ (r : Replaying). r .table) (f .replay)
 
--- what a cut keeps of entries that stand one behind the other is a beginning of them
-record Beginning (cut at : ℕ) (rs : List Request) : Type 0 where
-  before : List Request
-  after : List Request
-  parts : rs ≡ before ++ after
-  kept : keptBy cut (writtenFrom at rs) ≡ writtenFrom at before
+    -- its rows are those that the transactions make
+    rows-are : rowsIn (replaying (l .held) lent .table) ≡ rows
+    rows-are =
+        ap rowsIn table-of
+        ∙ ap (λ n. liveRows (n / 320) (tableOf (length (lent .table)) rows)) (table-length (length (lent .table)) rows (rows-held .inside))
+        ∙ live-back (length (lent .table)) rows rows-held
 
-begins : (cut at : ℕ) (rs : List Request) → Beginning cut at rs
-unfolding writtenFrom
-begins cut at [] = unfold keptBy in record { before = []; after = []; parts = refl; kept = refl }
-begins cut at (r ∷ rs) =
-    let next = at + (13 + length (encoded r)) in
-    let w : Written = record { request = r; end = next } in
-    caseB (leb next cut)
-    (λ q.
-    let b = begins cut next rs in
+    value-is : (key : List ℕ) → valueIn (replaying (l .held) lent .table) key ≡ lookup key rows
+    value-is key = ap (lookup key) rows-are
+
+    consists-relies : Relies (replaying (l .held) lent .table) (l .entries) (f .order)
+    consists-relies =
+        record {
+          applied = λ before n after e key t. rw (value-is key) (one-decides key (l .entries) (f .order) before n after e t);
+          last-decides = λ before n after e key t us. value-is key ∙ last-touches key (l .entries) (f .order) before n after e t us;
+          nothing-else = rw rows-are (rows-source (l .entries) (f .order));
+          sorted = rw rows-are (rows-held .sorted);
+          absent = λ key us. value-is key ∙ unnamed-absent key (f .order) (l .entries) us;
+        }
+
+-- ---- of any history, and of a cut log
+
+pub relies : (s : History) (g : Lived s) (f : AnyHistory s) → Relies (replaying (s .log .held) (s .lent) .table) (s .log .entries) (f .order)
+relies s g f =
+    let c = begun-consists (s .bound) (s .area) (s .directory) (s .steps) (s .log) (g .lived) in
+    consists-relies (s .log) (c .0) (s .lent) (c .1) (g .enough) (length (s .log .torn)) f
+
+module _ (s : Story) (g : Given s) where
+  written-segments : HasSegments (s .log)
+  written-segments = begun-consists (s .bound) (s .area) (s .directory) (map appends (s .requests)) (s .log) (g .written)
+
+  cut-segments : HasSegments (cutBy (s .cut) (s .log))
+  cut-segments = let c = written-segments in cutting-consists (s .log) (s .cut) (c .0) (c .1) (g .is-cut)
+
+  enough-cut : Enough (keptBy (cutOf s) (s .log .entries)) (s .lent)
+  enough-cut = enough-kept (cutOf s) (s .log .entries) (s .lent) (g .enough)
+
+  pub cut-relies : (f : Demand3 s) → Relies (replaying (cutBy (s .cut) (s .log) .held) (s .lent) .table) (keptBy (cutOf s) (s .log .entries)) (f .order)
+  cut-relies f =
+      let c = cut-segments in
+      consists-relies (cutBy (s .cut) (s .log)) (c .0) (s .lent) (c .1) enough-cut (cond (isInside (cutOf s) (s .log .entries)) 1 0) f
+
+-- ---- cutting nothing gives everything
+
+pub nothing-cut : (bound : ℕ) (area directory : List ℕ) (requests : List Request) (log : Life) (lent : Lent) → Lives (opens bound ∷ map appends requests) (empty area directory) log → Enough (log .entries) lent → Everything requests log lent
+nothing-cut bound area directory requests log lent e enough =
+    let start = empty area directory in
+    let a = appends-add requests (e .0) log (e .1 .1) in
+    let first : e .0 .entries ≡ [] = opening-entries start (e .0) bound (e .1 .0) in
+    let none : log .torn ≡ [] = run-torn bound requests start log e in
+    let follows : Follows (log .held) (log .entries) (length (log .torn)) lent =
+    any-history
+    (record { bound = bound; area = area; directory = directory; steps = map appends requests; log = log; lent = lent })
+    (record { lived = e; enough = enough }) in
     record {
-      before = r ∷ b .before;
-      after = b .after;
-      parts = ap (λ (l : List Request). r ∷ l) (b .parts);
-      kept = kept-whole cut w (writtenFrom next rs) (leb-true _ _ q) ∙ ap (λ (ws : List Written). w ∷ ws) (b .kept);
-    })
-    (λ q.
-    let h = leb-false next cut q in
-    record {
-      before = [];
-      after = r ∷ rs;
-      parts = refl;
-      kept = kept-not cut w (writtenFrom next rs) h ∙ kept-behind cut next rs (omega arith);
-    })
+      asked = ap (map requestOf) (a .entries ∙ ap (λ (ws : List Written). ws ++ a .more) first) ∙ a .asked;
+      follows = rw none at follows;
+    }
 
--- a writer that is asked for less is accepted too
-abbrev Accepts : Option WrittenLog → Type 0
-Accepts o = (log : WrittenLog) × (o ≡ some log)
+pub cut-nothing : (s : Story) → Given s → s .cut .k + 1 ≡ s .log .held .used → s .cut .n ≡ segmentIn (s .log .held) (s .cut .k) .length → NothingLost s
+cut-nothing s g last end =
+    let c = written-segments s g in
+    let n = nothing-lost (s .log) (s .cut) (c .0) (c .1) (g .is-cut) last end in
+    record { entries = n .0; whole = rw (inside-torn (cutOf s) (s .log .entries), n .1) }
 
-first-appended : (h : Held) (rs ss : List Request) (log : WrittenLog) → appendAll h (rs ++ ss) ≡ some log → Accepts (appendAll h rs)
-unfolding appendAll
-first-appended h [] ss log e = (_, refl)
-first-appended h (r ∷ rs) ss log e =
-    let f = first-says r (appendTo h r) (λ (g : Held). appendAll g (rs ++ ss)) log e in
-    let b = first-appended (f .held) rs ss (f .others) (f .rest) in
-    let held = ap (λ (o : Option Held). ifAccepted r o (λ (g : Held). appendAll g rs)) (f .accepted) in
-    (_, held ∙ ap (withFirst (lastWritten r (f .held))) (b .1))
-
-first-opened : (o : Option Held) (rs ss : List Request) (log : WrittenLog) → ifOpened o (rs ++ ss) ≡ some log → Accepts (ifOpened o rs)
-first-opened none rs ss log e = (log, e)
-first-opened (some h) rs ss log e = first-appended h rs ss log e
-
-first-written : (bound : ℕ) (area directory : List ℕ) (rs ss : List Request) (log : WrittenLog) → writeLog bound area directory (rs ++ ss) ≡ some log → Accepts (writeLog bound area directory rs)
-unfolding writeLog
-first-written bound area directory rs ss log e = first-opened (openWith bound area directory) rs ss log e
-
--- ---- "an entry after the cut leaves no trace"
-
-module _ (cut : ℕ) (ws : List Written) (entries transactions : ℕ) where
-  recovered-alike : recoveredFrom cut ws entries transactions ≡ recoveringWith (cond (isInside cut ws) 1 0) (recoveredAll (keptBy cut ws) entries transactions)
-  unfolding recoveredFrom readUpTo recoveredOf statsOf
-  recovered-alike = refl
-
-  replayed-alike : (table : ℕ) → replayedFrom cut ws entries transactions table ≡ replayingWith (cond (isInside cut ws) 1 0) (replayedAll (keptBy cut ws) entries transactions table)
-  unfolding replayedFrom recoveredFrom readUpTo recoveredOf statsOf
-  replayed-alike table = refl
+-- ---- an entry after the cut leaves no trace
 
 pub no-trace : (s : Story) → Given s → NoTrace s
+unfolding keptBy
 no-trace s g =
-    let b = begins (cutOf s) 0 (s .requests) in
-    let w : writeLog (s .bound) (s .area) (s .directory) (b .before ++ b .after) ≡ some (s .log) = rw (b .parts) at (g .written) in
-    let typed : All Typed (b .before ++ b .after) = rw (b .parts) at (g .typed) in
-    let first = all-parts Typed (b .before) (b .after) typed .0 in
-    let e = first-written (s .bound) (s .area) (s .directory) (b .before) (b .after) (s .log) w in
-    let same : e .0 .entries ≡ keptBy (cutOf s) (s .log .entries) =
-    written-entries (s .bound) (s .area) (s .directory) (b .before) (e .0) first (e .1)
-    ∙ sym (b .kept)
-    ∙ ap (keptBy (cutOf s)) (sym (written-entries (s .bound) (s .area) (s .directory) (s .requests) (s .log) (g .typed) (g .written))) in
-    let enough : Enough (e .0 .entries) (s .entry-list) (s .transactions) (s .table) = rw same (g .enough) in
-    let all = nothing-cut (s .bound) (s .area) (s .directory) (b .before) (e .0) first (e .1) (s .entry-list) (s .transactions) (s .table) enough in
-    let theorem = crash-cut s g in
+    let c = written-segments s g in
+    let e = g .written in
+    let cut = cutOf s in
+    let first : e .0 .entries ≡ [] = opening-entries (empty (s .area) (s .directory)) (e .0) (s .bound) (e .1 .0) in
+    let b = begins cut (s .requests) (e .0) (s .log) (e .1 .1) (entries-rise (s .log) (c .0) (c .1)) (rw first) in
+    let written : Lives (opens (s .bound) ∷ map appends (b .before)) (empty (s .area) (s .directory)) (b .earlier) = (e .0, (e .1 .0, b .lives)) in
+    let enough : Enough (b .earlier .entries) (s .lent) = rw (b .entries) (enough-cut s g) in
+    let all = nothing-cut (s .bound) (s .area) (s .directory) (b .before) (b .earlier) (s .lent) written enough .follows in
+    let f = demand-3 s g in
     record {
       before = b .before;
       after = b .after;
       requests = b .parts;
-      earlier = e .0;
-      written = e .1;
-      entries = same;
-      recovery = theorem .recovery ∙ recovered-alike _ _ _ _ ∙ rw (all .recovery, same);
-      replay = theorem .replay ∙ replayed-alike _ _ _ _ _ ∙ rw (all .replay, same);
+      earlier = b .earlier;
+      written = written;
+      entries = b .entries;
+      follows = all;
+      entry-list =
+          ap (λ (r : Recovering). r .entries) (f .recovery)
+          ∙ sym (ap (λ (r : Recovering). r .entries) (all .recovery) ∙ rw (b .entries));
+      transactions =
+          ap (λ (r : Recovering). r .transactions) (f .recovery)
+          ∙ sym (ap (λ (r : Recovering). r .transactions) (all .recovery) ∙ rw (b .entries));
+      table =
+          table-is (cutBy (s .cut) (s .log) .held) (keptBy cut (s .log .entries)) _ (s .lent) f
+          ∙ sym (table-is (b .earlier .held) (b .earlier .entries) _ (s .lent) all ∙ rw (b .entries));
     }

@@ -17,8 +17,8 @@ use Rattle.entry.specs.Parts.{txOf, kindOf}
 use Rattle.entry.specs.declared.WalEntry.{WalEntry}
 use Rattle.entry.specs.declared.decoding.Decoded.the-variants as Decodes
 use Rattle.entry.proofs.RoundTrip.{placed, decode-payload, well-formed-readable, placed-tx, placed-kind}
-use Rattle.crash.specs.Write.{Request, encoded}
-use Rattle.crash.proofs.Laid.{Accepted}
+use Rattle.crash.specs.Request.{Request, encoded}
+use Rattle.crash.proofs.Images.{Accepted}
 
 -- ---- bytes
 

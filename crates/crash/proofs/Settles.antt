@@ -4,7 +4,7 @@ use mathlib.Core.Path.{_≡_, refl}
 use mathlib.Core.Bool.{true}
 use mathlib.Core.List.{List, [], _∷_, append-nil}
 use mathlib.Core.Option.{Option, none, some}
-use Prim.Native.Nat.{ℕ, _^_, _<_, _≤_}
+use Prim.Native.Nat.{ℕ, _/_, _^_, _<_, _≤_}
 use native.Mathlib.Omega.{arith}
 use borrow.Author.Tests.{le-leb}
 use lib.Dec.{eqb}
@@ -13,7 +13,8 @@ use Rattle.refusal.specs.Answer.{accepted}
 use Rattle.fields.specs.Order.{compareBytes}
 use Rattle.fields.proofs.Cases.{caseB}
 use Rattle.records.specs.Dense.{All}
-use Rattle.records.proofs.Sorted.{bytes-order, put-all, remove-all, Has, put-has, put-had, Among, no-more}
+use Rattle.records.specs.Sorted.{itself}
+use Rattle.records.proofs.Sorted.{bytes-order, put-all, remove-all, Has, Among, no-more}
 use Rattle.payload.specs.Content.{Content, insert, update, delete, commit, abort, payloadOf}
 use Rattle.payload.specs.Encode.{isWellFormed, payloadFor}
 use Rattle.payload.proofs.Laws.{limits}
@@ -23,16 +24,18 @@ use Rattle.entry.proofs.RoundTrip.{placed, well-formed-readable, decode-payload
 use Rattle.chains.specs.Chain.{entriesOf}
 use Rattle.recovery.specs.Payload.{payloadIn}
 use Rattle.table.specs.Row.{Row, rowOf, keyOf, fits}
-use Rattle.table.specs.Table.{Sorted, set, removeKey, setIn}
+use Rattle.table.specs.Table.{Sorted, set, removeKey, setIn, Held}
 use Rattle.table.proofs.Lookups.{set-sorted, remove-sorted}
+use Rattle.table.proofs.Tables.{none-held}
 use Rattle.store.specs.Order.{replayOrder, entriesInTurn, replayed}
 use Rattle.store.specs.Change.{changedBy, runOf}
 use Rattle.store.specs.Effect.{Effect, puts, drops, keeps, effectOf, effectAt, effectIn}
-use Rattle.store.proofs.Runs.{run-append}
-use Rattle.crash.specs.Write.{askedBy, encoded, Written}
+use Rattle.store.proofs.Runs.{run-append, run-held}
+use Rattle.crash.specs.Request.{askedBy, encoded, Written}
 use Rattle.crash.specs.Kept.{listedAs, listedAll}
-use Rattle.crash.specs.Settings.{effectAs, effectBy, settle, runNumber, runNumbers, settingsOf, itself, withKey, keysOf}
-use Rattle.crash.proofs.Laid.{Kept}
+use Rattle.crash.specs.Settings.{effectAs, effectBy, settle, runNumber, runNumbers, withKey, keysOf, distinct}
+use Rattle.crash.proofs.Holdings.{Kept}
+use Rattle.crash.proofs.Distinct.{distinct-own, distinct-had}
 
 -- ---- the rows stay sorted
 
@@ -166,37 +169,46 @@ module _ (records : ℕ) (area : List ℕ) (keys : List (List ℕ)) (room : leng
 -- ---- the keys that are ever written
 
 -- a key among them stays so
-with-had : (x : Effect) (keys : List (List ℕ)) (key : List ℕ) → Has compareBytes itself key keys → Has compareBytes itself key (withKey x keys)
-with-had (puts k value) keys key g = put-had compareBytes bytes-order itself _ itself _ (λ r e. e) refl key keys g
-with-had (drops k) keys key g = g
-with-had keeps keys key g = g
-
-with-named : (x : Effect) (keys : List (List ℕ)) (other : Effect) → Named keys other → Named (withKey x keys) other
-with-named x keys (puts key value) g = with-had x keys key g
+with-named : (x : Effect) (keys : List (List ℕ)) (other : Effect) → Named (distinct compareBytes keys) other → Named (distinct compareBytes (withKey x keys)) other
+with-named (puts k value) keys (puts key new) g = distinct-had compareBytes bytes-order k keys key g
+with-named (drops k) keys (puts key new) g = g
+with-named keeps keys (puts key new) g = g
 with-named x keys (drops key) g = tt
 with-named x keys keeps g = tt
 
 -- an entry's own key is among them
-with-own : (x : Effect) (keys : List (List ℕ)) → Named (withKey x keys) x
-with-own (puts key value) keys = put-has compareBytes bytes-order itself key itself key (λ r e. e) refl keys
+with-own : (x : Effect) (keys : List (List ℕ)) → Named (distinct compareBytes (withKey x keys)) x
+with-own (puts key value) keys = distinct-own compareBytes bytes-order key keys
 with-own (drops key) keys = tt
 with-own keeps keys = tt
 
-all-with : (area : List ℕ) (keys : List (List ℕ)) (x : Effect) (ws : List Written) → All (Applies area keys) ws → All (Applies area (withKey x keys)) ws
+all-with : (area : List ℕ) (keys : List (List ℕ)) (x : Effect) (ws : List Written) → All (Applies area (distinct compareBytes keys)) ws → All (Applies area (distinct compareBytes (withKey x keys))) ws
 all-with area keys x [] gs = tt
 all-with area keys x (w ∷ ws) gs =
     (record { kept = gs .0 .kept; named = with-named x keys (effectBy (w .request)) (gs .0 .named) }, all-with area keys x ws (gs .1))
 
-all-apply : (area : List ℕ) (ws : List Written) → All (Kept area) ws → All (Applies area (keysOf ws)) ws
+all-apply : (area : List ℕ) (ws : List Written) → All (Kept area) ws → All (Applies area (distinct compareBytes (keysOf ws))) ws
 unfolding keysOf
 all-apply area [] ks = tt
 all-apply area (w ∷ ws) ks =
     let x = effectBy (w .request) in
     (record { kept = ks .0; named = with-own x (keysOf ws) }, all-with area (keysOf ws) x ws (all-apply area ws (ks .1)))
 
--- the table has a record for every key ever written: then replay of kept entries is not refused, and leaves the table that
--- their transactions make
-pub settled : (records : ℕ) (area : List ℕ) (ws : List Written) → All (Kept area) ws → length (keysOf ws) ≤ records → runOf records area (replayed (listedAll ws)) [] ≡ accepted (settingsOf ws)
-unfolding replayed settingsOf
-settled records area ws ks room =
-    numbers-settle records area (keysOf ws) room (replayOrder (listedAll ws)) ws [] (all-apply area ws ks) (none-keyed (keysOf ws))
+-- the table has a record for every key ever written
+module _ (area : List ℕ) (ws : List Written) (ks : All (Kept area) ws) where
+  abbrev keys : List (List ℕ)
+  keys = distinct compareBytes (keysOf ws)
+
+  -- then replay of kept entries is not refused, and leaves the table that their transactions make, in any order
+  settled-by : (records : ℕ) (ns : List ℕ) → length keys ≤ records → runOf records area (entriesInTurn ns (listedAll ws)) [] ≡ accepted (runNumbers ns ws [])
+  settled-by records ns room = numbers-settle records area keys room ns ws [] (all-apply area ws ks) (none-keyed keys)
+
+  -- in replay's order
+  pub settled : (records : ℕ) → length (distinct compareBytes (keysOf ws)) ≤ records → runOf records area (replayed (listedAll ws)) [] ≡ accepted (runNumbers (replayOrder (listedAll ws)) ws [])
+  unfolding replayed
+  settled records room = settled-by records (replayOrder (listedAll ws)) room
+
+  -- rows that the table may hold
+  pub settled-held : (room : ℕ) (ns : List ℕ) → length (distinct compareBytes (keysOf ws)) ≤ room / 320 → Held room (runNumbers ns ws [])
+  settled-held room ns enough =
+      run-held room area (entriesInTurn ns (listedAll ws)) [] (runNumbers ns ws []) (none-held room) (settled-by (room / 320) ns enough)

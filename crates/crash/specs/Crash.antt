@@ -1,63 +1,143 @@
--- Demand 3, `crash_cut`: "cut a log anywhere, and recovery returns exactly what ended at or before the cut, and replay the
--- table of the committed transactions". What is given and what follows, sentence by sentence.
+-- Demand 3, clause by clause: `demand-3` for one run and one cut, `any-history` for any number of both.
 -- Assumes nothing.
-use Prim.Native.Nat.{ℕ, _+_}
+use Prim.Native.Nat.{ℕ, _/_, _<_, _≤_}
 use mathlib.Core.Path.{_≡_}
-use mathlib.Core.List.{List}
-use mathlib.Core.Option.{some}
+use mathlib.Core.Bool.{true, cond}
+use mathlib.Core.Logic.{_↔_}
+use mathlib.Core.List.{List, [], _∷_, map, List·Memᴰ}
 use lib.ListN.{length}
-use Rattle.records.specs.Dense.{All}
-use Rattle.recovery.specs.Recover.{recoverOf}
-use Rattle.store.specs.Replay.{replayOf}
-use Rattle.crash.specs.Write.{Request, WrittenLog, writeLog, Typed}
-use Rattle.crash.specs.Kept.{keptBy}
-use Rattle.crash.specs.Cut.{cutPlace, cutDirectory, IsCut, Enough, recoveredFrom, replayedFrom}
+use Rattle.fields.specs.Order.{compareBytes}
+use Rattle.refusal.specs.Answer.{accepted}
+use Rattle.records.specs.Dense.{dense, All}
+use Rattle.records.specs.Sorted.{compareNumbers}
+use Rattle.directory.specs.Lent.{fitsOf}
+use Rattle.directory.specs.declared.lent.Lent.the-variants as Lends
+use Rattle.lists.specs.Entries.{entryRecordBytes}
+use Rattle.lists.specs.Markers.{lastMarker}
+use Rattle.lists.specs.Transactions.{transactionBytes, transactionsOf}
+use Rattle.lists.specs.declared.transactions.RecoveryAction.the-variants.{Commit}
+use Rattle.recovery.specs.Payload.{payloadIn}
+use Rattle.recovery.specs.Recover.{recoveredOf, Recovering, recoverOf}
+use Rattle.recovery.specs.declared.Recovered.{Recovered}
+use Rattle.table.specs.Table.{tableOf}
+use Rattle.store.specs.Replay.{Replaying, replayOf}
+use Rattle.crash.specs.Request.{Request, encoded, Written}
+use Rattle.crash.specs.Kept.{keptBy, isInside, listedAs, listedAll}
+use Rattle.crash.specs.Life.{Held, Life, empty, Cut, cutPlace, IsCut, cutBy, Step, opens, appends, Lives}
+use Rattle.crash.specs.Settings.{runNumbers, keysOf, numberOf, distinct}
 
--- a log that was written and cut, and the buffers that are lent then
+-- ---- what is lent to recovery and replay
+
+pub record Lent : Type 0 where
+  pub entries : List ℕ
+  pub transactions : List ℕ
+  pub table : List ℕ
+
+-- "lists that hold every entry and number, and a table with a record for every key ever written, all of whole records and none
+-- over its most", of these entries
+pub record Enough (ws : List Written) (lent : Lent) : Type 0 where
+  pub entry-list : fitsOf Lends.EntryList (length (lent .entries)) ≡ true
+  pub every-entry : length ws ≤ length (lent .entries) / 32
+  pub transaction-list : fitsOf Lends.Transactions (length (lent .transactions)) ≡ true
+  pub every-number : length (distinct compareNumbers (map numberOf ws)) ≤ length (lent .transactions) / 24
+  pub table-fits : fitsOf Lends.Table (length (lent .table)) ≡ true
+  pub every-key : length (distinct compareBytes (keysOf ws)) ≤ length (lent .table) / 320
+
+abbrev pub recovering : Held → Lent → Recovering
+recovering h lent = recoverOf (h .area) (h .directory) (h .used) (lent .entries) (lent .transactions)
+
+abbrev pub replaying : Held → Lent → Replaying
+replaying h lent = replayOf (h .area) (h .directory) (h .used) (lent .entries) (lent .transactions) (lent .table)
+
+-- ---- what follows, of a log that holds these entries
+
+-- an entry's own encoding stands at its listed place: its number, time, key and values, the old one too
+abbrev pub IsStored : (area : List ℕ) → Written → Type 0
+IsStored area w = payloadIn area (listedAs w) ≡ encoded (w .request)
+
+-- "by ascending number", each once
+abbrev pub Ascending : List ℕ → Type 0
+Ascending [] = Unit {0}
+Ascending (n ∷ ns) = All (λ (m : ℕ). n < m) ns × Ascending ns
+
+pub record Follows (h : Held) (kept : List Written) (partial : ℕ) (lent : Lent) : Type 0 where
+  -- "recovery returns exactly the entries": it is accepted, both lists byte for byte are theirs, and so is what stands at each
+  -- listed place
+  pub values : Recovered
+  pub recovery :
+      recovering h lent
+      ≡ record {
+        answer = accepted values;
+        entries = dense entryRecordBytes (length (lent .entries)) (listedAll kept);
+        transactions = dense transactionBytes (length (lent .transactions)) (transactionsOf (listedAll kept));
+      }
+  pub entry-count : values .entries ≡ length kept
+  pub payloads : All (IsStored (h .area)) kept
+  -- "counts no checksum failure"
+  pub no-checksum : values .stats .«checksum_failures» ≡ 0
+  -- and so many partial writes
+  pub partials : values .stats .«partial_writes» ≡ partial
+  -- the other numbers are those of a log that reads so
+  pub others : values ≡ recoveredOf (record { entries = listedAll kept; partial = partial; checksum = 0 })
+  -- "by ascending number, the transactions whose last kept marker is a commit"
+  pub order : List ℕ
+  pub committed : (number : ℕ) → List·Memᴰ number order ↔ (lastMarker number (listedAll kept) ≡ Commit)
+  pub ascending : Ascending order
+  -- replay answers as recovery does, and "leaves the table made by running, one after another" these
+  pub replay :
+      replaying h lent
+      ≡ record {
+        answer = recovering h lent .answer;
+        entries = recovering h lent .entries;
+        transactions = recovering h lent .transactions;
+        table = tableOf (length (lent .table)) (runNumbers order kept []);
+      }
+
+-- ---- demand 3
+
 pub record Story : Type 0 where
-  -- the writer's bound and buffers, and what it is asked to append
+  -- the writer's bound and buffers, what it is asked to append, and what it has then
   pub bound : ℕ
   pub area : List ℕ
   pub directory : List ℕ
   pub requests : List Request
-  -- what was written
-  pub log : WrittenLog
-  -- segment k is kept up to its byte n, and this is the area then
-  pub k : ℕ
-  pub n : ℕ
-  pub area-left : List ℕ
-  -- lent to recovery and replay
-  pub entry-list : List ℕ
-  pub transactions : List ℕ
-  pub table : List ℕ
-
--- where the cut is
-abbrev pub cutOf : Story → ℕ
-cutOf s = cutPlace (s .log .held) (s .k) (s .n)
+  pub log : Life
+  pub cut : Cut
+  pub lent : Lent
 
 pub record Given (s : Story) : Type 0 where
-  -- what the types of the entry call say: a number has 64 bits, a key and a value are bytes.
-  -- Nothing is asked of log number, kind and bound, nor of what area and directory hold.
-  pub typed : All Typed (s .requests)
-  -- "The writer is opened once on an empty directory (any area, any directory buffer, any bound) and any list of entries is
-  -- appended through the entry call, each accepted, no other call between, every buffer handed back untouched"
-  pub written : writeLog (s .bound) (s .area) (s .directory) (s .requests) ≡ some (s .log)
-  -- "Some segment is chosen; the segments before it stay whole, that one is kept up to any byte, none after: the directory's
-  -- used count and that record's length say so"; "area bytes after the cut may be anything"
-  pub cut : IsCut (s .log .held) (s .k) (s .n) (s .area-left)
-  -- "The lists hold every kept entry and number, .. and the table has a record for every key ever written; all of whole
-  -- records, none over its most."
-  pub enough : Enough (keptBy (cutOf s) (s .log .entries)) (s .entry-list) (s .transactions) (s .table)
+  -- "Open the writer once on an empty directory and append any list of entries its entry call accepts, with no other call
+  -- between and every buffer handed back untouched."
+  pub written : Lives (opens (s .bound) ∷ map appends (s .requests)) (empty (s .area) (s .directory)) (s .log)
+  -- "Keep the segments before some one whole, that one up to any byte, and none after."
+  pub is-cut : IsCut (s .log .held) (s .cut)
+  -- "Given lists that hold every entry and number, and a table with a record for every key ever written"
+  pub enough : Enough (s .log .entries) (s .lent)
 
-pub record Follows (s : Story) : Type 0 where
-  -- "Then recovery is not refused and returns exactly the entries ending at or before the cut (the entry list's records and
-  -- the transactions, byte for byte), no checksum failure, one partial write exactly if the cut is inside an entry and none
-  -- otherwise"
-  pub recovery :
-      recoverOf (s .area-left) (cutDirectory (s .log .held) (s .k) (s .n)) (s .k + 1) (s .entry-list) (s .transactions)
-      ≡ recoveredFrom (cutOf s) (s .log .entries) (length (s .entry-list)) (length (s .transactions))
-  -- "and replay is not refused and leaves the table made by running, one after another by ascending number, the transactions
-  -- whose last kept marker is a commit."
-  pub replay :
-      replayOf (s .area-left) (cutDirectory (s .log .held) (s .k) (s .n)) (s .k + 1) (s .entry-list) (s .transactions) (s .table)
-      ≡ replayedFrom (cutOf s) (s .log .entries) (length (s .entry-list)) (length (s .transactions)) (length (s .table))
+abbrev pub cutOf : Story → ℕ
+cutOf s = cutPlace (s .log .held) (s .cut)
+
+-- "the entries ending at or before the cut", and "one partial write exactly if the cut is inside an entry"
+abbrev pub Demand3 : Story → Type 0
+Demand3 s =
+    Follows (cutBy (s .cut) (s .log) .held) (keptBy (cutOf s) (s .log .entries)) (cond (isInside (cutOf s) (s .log .entries)) 1 0) (s .lent)
+
+-- ---- any history
+
+pub record History : Type 0 where
+  pub bound : ℕ
+  pub area : List ℕ
+  pub directory : List ℕ
+  pub steps : List Step
+  pub log : Life
+  pub lent : Lent
+
+pub record Lived (s : History) : Type 0 where
+  -- opened on an empty directory, and then any steps
+  pub lived : Lives (opens (s .bound) ∷ s .steps) (empty (s .area) (s .directory)) (s .log)
+  -- lists and a table for what is there
+  pub enough : Enough (s .log .entries) (s .lent)
+
+-- the entries that every cut left, and as many partial writes as there are segments that end inside an entry
+abbrev pub AnyHistory : History → Type 0
+AnyHistory s = Follows (s .log .held) (s .log .entries) (length (s .log .torn)) (s .lent)

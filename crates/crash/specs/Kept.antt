@@ -1,4 +1,4 @@
--- What a cut leaves of a log: "exactly the entries ending at or before the cut".
+-- What a cut leaves of entries: "exactly the entries ending at or before the cut", and the one that "the cut is inside".
 -- Assumes nothing.
 use Prim.Native.Nat.{ℕ, _+_, _-_}
 use mathlib.Core.Bool.{Bool, false, cond, _&&_, _||_}
@@ -6,8 +6,7 @@ use mathlib.Core.List.{List, [], _∷_, map}
 use lib.Dec.{leb, ltb}
 use lib.ListN.{length}
 use Rattle.lists.specs.declared.entries.EntryRecord.{EntryRecord}
-use Rattle.recovery.specs.Log.{LogRead}
-use Rattle.crash.specs.Write.{encoded, Written}
+use Rattle.crash.specs.Request.{encoded, Written}
 
 -- a cut is the area's first byte that is not kept
 unfoldable pub keptBy : (cut : ℕ) → List Written → List Written
@@ -18,10 +17,24 @@ keptBy cut (w ∷ ws) = cond (leb (w .end) cut) (w ∷ keptBy cut ws) (keptBy cu
 abbrev pub startOf : Written → ℕ
 startOf w = w .end - (13 + length (encoded (w .request)))
 
+-- the cut is inside this one
+abbrev pub within : (cut : ℕ) → Written → Bool
+within cut w = ltb (startOf w) cut && ltb cut (w .end)
+
 -- whether "the cut is inside an entry"
 unfoldable pub isInside : (cut : ℕ) → List Written → Bool
 isInside cut [] = false
-isInside cut (w ∷ ws) = (ltb (startOf w) cut && ltb cut (w .end)) || isInside cut ws
+isInside cut (w ∷ ws) = within cut w || isInside cut ws
+
+-- the first byte of the entry that it is inside
+unfoldable pub tornBy : (cut : ℕ) → List Written → List ℕ
+tornBy cut [] = []
+tornBy cut (w ∷ ws) = cond (within cut w) (startOf w ∷ tornBy cut ws) (tornBy cut ws)
+
+-- of entries that were torn before, those of which the cut leaves something
+unfoldable pub stillTorn : (cut : ℕ) → (torn : List ℕ) → List ℕ
+stillTorn cut [] = []
+stillTorn cut (start ∷ torn) = cond (ltb start cut) (start ∷ stillTorn cut torn) (stillTorn cut torn)
 
 -- what the entry list says of a written entry
 unfoldable pub listedAs : Written → EntryRecord
@@ -35,8 +48,3 @@ listedAs w =
 
 abbrev pub listedAll : List Written → List EntryRecord
 listedAll ws = map listedAs ws
-
--- "exactly the entries ending at or before the cut .., no checksum failure, one partial write exactly if the cut is inside an
--- entry and none otherwise"
-unfoldable pub readUpTo : (cut : ℕ) → List Written → LogRead
-readUpTo cut ws = record { entries = listedAll (keptBy cut ws); partial = cond (isInside cut ws) 1 0; checksum = 0 }

@@ -6,25 +6,22 @@ use mathlib.Core.Bool.{true, false}
 use mathlib.Core.List.{List, [], _∷_}
 use mathlib.Core.Option.{none, some}
 use Rattle.fields.specs.Order.{compareBytes, sameBytes}
-use Rattle.records.specs.Sorted.{compareNumbers, put, remove}
+use Rattle.records.specs.Sorted.{put, remove}
 use Rattle.payload.specs.Kind.{byKind}
 use Rattle.payload.specs.Encode.{asked}
-use Rattle.lists.specs.Transactions.{noted, begun, note, noteAll, transactionsOf}
 use Rattle.table.specs.Row.{rowOf}
 use Rattle.table.specs.Table.{set, removeKey}
 use Rattle.store.specs.Effect.{effectOf}
-use Rattle.store.specs.Order.{committedOf, replayOrder}
 use Rattle.store.specs.Left.{leftBy}
-use Rattle.crash.specs.Write.{Written}
-use Rattle.crash.specs.Kept.{listedAs}
-use Rattle.crash.specs.Settings.{settle, runNumber, runNumbers, settingsOf, keysOf}
+use Rattle.crash.specs.Request.{Written}
+use Rattle.crash.specs.Settings.{settle, runNumber, runNumbers, keysOf, distinct}
 use Rattle.crash.specs.Touch.{names, touches, leavesFrom, leaves}
 
 abbrev by : (tx kind : ℕ) → (key value : List ℕ) → Written
 by tx kind key value =
     record { request = record { lsn = 0; kind = kind; tx = tx; time = 0; key = key; old = []; new = value }; end = 0 }
 
--- the keys "a" and "b"
+-- the keys a and b
 abbrev a : List ℕ
 a = 97 ∷ []
 
@@ -38,9 +35,9 @@ log =
 
 record Examples : Type 0 where
   -- "by ascending number": the delete comes last, though it was logged first
-  settings : settingsOf log ≡ rowOf a (4 ∷ []) ∷ []
+  settings : runNumbers (1 ∷ 2 ∷ []) log [] ≡ rowOf a (4 ∷ []) ∷ []
   -- each key once
-  keys : keysOf log ≡ a ∷ b ∷ []
+  keys : distinct compareBytes (keysOf log) ≡ a ∷ b ∷ []
   -- a delete touches its key, and leaves nothing; a marker touches none, the empty one neither
   touched : touches b 2 log ≡ true
   deleted : leaves b 2 log ≡ none
@@ -49,5 +46,5 @@ record Examples : Type 0 where
   last : leaves a 1 log ≡ some (4 ∷ [])
 
 examples : Examples
-unfolding settingsOf runNumbers runNumber settle keysOf touches names leaves leavesFrom leftBy effectOf replayOrder committedOf transactionsOf noteAll note put remove compareNumbers noted begun listedAs asked byKind set removeKey compareBytes sameBytes
+unfolding runNumbers runNumber settle keysOf distinct touches names leaves leavesFrom leftBy effectOf put remove asked byKind set removeKey compareBytes sameBytes
 examples = record { settings = refl; keys = refl; touched = refl; deleted = refl; by-marker = refl; last = refl }

@@ -1,9 +1,12 @@
-pub mod Write
+pub mod Request
 pub mod Kept
+pub mod Life
 pub mod Settings
-pub mod Touch
-pub mod Cut
 pub mod Crash
+pub mod Touch
 pub mod Operator
-pub mod KeyExamples
+pub mod Words
+pub mod Runs
 pub mod Example
+pub mod TwoCuts
+pub mod KeyExamples

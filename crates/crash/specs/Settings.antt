@@ -1,21 +1,17 @@
--- "the table made by running, one after another by ascending number, the transactions whose last kept marker is a commit".
--- Which they are, and their order, is `replayOrder`; that it is these, in this order, is `order-exactly` and `order-ascends` of
--- `store` (proofs/Committed.antt).
+-- "the table made by running, one after another .., the transactions": what an entry does is `effectOf` of `store`.
 -- Assumes nothing.
 use Prim.Native.Nat.{ℕ}
 use mathlib.Core.Bool.{cond}
 use mathlib.Core.List.{List, [], _∷_}
 use mathlib.Core.Option.{Option, none, some}
 use lib.Dec.{eqb}
-use Rattle.fields.specs.Order.{compareBytes}
-use Rattle.records.specs.Sorted.{put}
+use Rattle.fields.specs.declared.bytes.Ordering.{Ordering}
+use Rattle.records.specs.Sorted.{itself, put}
 use Rattle.payload.specs.Content.{Content}
 use Rattle.table.specs.Row.{Row, rowOf}
 use Rattle.table.specs.Table.{set, removeKey}
-use Rattle.store.specs.Order.{replayOrder}
 use Rattle.store.specs.Effect.{Effect, puts, drops, keeps, effectOf}
-use Rattle.crash.specs.Write.{Request, askedBy, Written}
-use Rattle.crash.specs.Kept.{listedAll}
+use Rattle.crash.specs.Request.{Request, askedBy, Written}
 
 -- what an entry that is asked for does to the table
 abbrev pub effectAs : Option Content → Effect
@@ -37,26 +33,27 @@ runNumber number [] rows = rows
 runNumber number (w ∷ ws) rows =
     runNumber number ws (cond (eqb (w .request .tx) number) (settle (effectBy (w .request)) rows) rows)
 
--- the transactions of some numbers, one after another
+-- the transactions of some numbers, "one after another"
 unfoldable pub runNumbers : List ℕ → List Written → List Row → List Row
 runNumbers [] ws rows = rows
 runNumbers (n ∷ ns) ws rows = runNumbers ns ws (runNumber n ws rows)
 
--- the table that the entries of a log make
-unfoldable pub settingsOf : List Written → List Row
-settingsOf ws = runNumbers (replayOrder (listedAll ws)) ws []
+-- ---- every "number", and "every key ever written"
 
--- ---- the keys that are ever written, each once
-
-abbrev pub itself : List ℕ → List ℕ
-itself key = key
-
--- put at its place, if it isn't there yet; a delete writes none
+-- a delete writes none
 abbrev pub withKey : Effect → List (List ℕ) → List (List ℕ)
-withKey (puts key value) keys = put compareBytes itself key itself key keys
+withKey (puts key value) keys = key ∷ keys
 withKey (drops key) keys = keys
 withKey keeps keys = keys
 
 unfoldable pub keysOf : List Written → List (List ℕ)
 keysOf [] = []
 keysOf (w ∷ ws) = withKey (effectBy (w .request)) (keysOf ws)
+
+abbrev pub numberOf : Written → ℕ
+numberOf w = w .request .tx
+
+-- each once: put at its place, if it isn't there yet
+unfoldable pub distinct : {K : Type 0} → (compare : K → K → Ordering) → List K → List K
+distinct compare [] = []
+distinct compare (k ∷ ks) = put compare itself k itself k (distinct compare ks)

@@ -9,7 +9,7 @@ use lib.Dec.{eqb}
 use Rattle.fields.specs.Order.{sameBytes}
 use Rattle.store.specs.Effect.{Effect, puts, drops, keeps}
 use Rattle.store.specs.Left.{leftBy}
-use Rattle.crash.specs.Write.{Written}
+use Rattle.crash.specs.Request.{Written}
 use Rattle.crash.specs.Settings.{effectBy}
 
 -- an entry that sets or removes a key names it

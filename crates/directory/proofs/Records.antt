@@ -5,7 +5,7 @@ use mathlib.Core.List.{List, [], _∷_, _++_, append-assoc}
 use Prim.Native.Nat.{ℕ, zero, suc, _+_, _-_, _*_, _^_, _<_, _≤_}
 use native.Mathlib.Nat.{add-zero}
 use native.Mathlib.Omega.{arith}
-use lib.ListN.{length, getD, drop, set, length-append, length-drop, drop-of-length-le}
+use lib.ListN.{length, getD, take, drop, set, length-append, length-drop, drop-of-length-le}
 use lib.Seq.{sets, drop-drop, drop-at, set-at}
 use Rattle.fields.specs.Le.{Bytes, leOf, leBytes, numAt}
 use Rattle.fields.proofs.Numbers.{length-bytes, num-front, num-skip, num-below}
@@ -75,6 +75,13 @@ record-of (suc n) s zero d h = refl
 record-of (suc n) s (suc k) d h =
     let e : 24 * suc k ≡ 24 + 24 * k = omega arith in
     rw (e, ← drop-drop (24 * k) 24 s) (record-of n (drop 24 s) k d (omega arith))
+
+-- the first of them
+pub records-first : (n k : ℕ) (s : List ℕ) → k ≤ n → recordsOf k s ≡ take k (recordsOf n s)
+unfolding recordsOf
+records-first n zero s h = refl
+records-first zero (suc k) s h = absurd (omega arith)
+records-first (suc n) (suc k) s h = rw (records-first n k (drop 24 s) (omega arith))
 
 -- one record more
 pub records-snoc : (n : ℕ) (s : List ℕ) → recordsOf (n + 1) s ≡ recordsOf n s ++ (recordAt (drop (24 * n) s) ∷ [])

@@ -1,6 +1,6 @@
--- What the test of refusals 1 and 2 says when nothing is refused, and what keeps a directory sound: a record behind the others, and the last one at another length.
+-- What the test of refusals 1 and 2 says when nothing is refused, and what keeps a directory sound: a record written behind others.
 -- Assumes nothing.
-use mathlib.Core.Path.{_≡_, refl, sym, ap, _∙_}
+use mathlib.Core.Path.{_≡_, refl}
 use mathlib.Core.Bool.{Bool, true, false, cond, and-eq-true-iff}
 use mathlib.Core.List.{List}
 use Prim.Native.Nat.{ℕ, _+_, _*_, _/_, _%_, _<_, _≤_}
@@ -8,8 +8,6 @@ use native.Mathlib.Omega.{arith}
 use borrow.Author.Tests.{leb-true, le-leb, eqb-true, eq-eqb}
 use lib.ListN.{length, drop}
 use lib.Seq.{sets, length-sets}
-use Rattle.fields.specs.Le.{Bytes}
-use Rattle.fields.proofs.Numbers.{bytes-drop}
 use Rattle.refusal.specs.Answer.{refused, sound}
 use Rattle.directory.specs.Lent.{sizeOf, mostOf, fitsOf}
 use Rattle.directory.specs.Record.{recordAt, recordBytes, recordsOf, endOf}
@@ -18,8 +16,8 @@ use Rattle.directory.specs.declared.lent.Lent.{Lent}
 use Rattle.directory.specs.declared.lent.Lent.the-variants.{Area, Directory}
 use Rattle.directory.specs.declared.record.SegmentRecord.{SegmentRecord}
 use Rattle.directory.specs.declared.rule.Last.the-variants.{NoSegment}
-use Rattle.directory.proofs.Records.{Held, record-held, length-records, record-of, records-snoc, records-more}
-use Rattle.directory.proofs.Rules.{follows-says, follows-so, lastOf, rule-snoc, rule-ends, rule-last}
+use Rattle.directory.proofs.Records.{Held, length-records, record-of, records-more}
+use Rattle.directory.proofs.Rules.{lastOf, rule-snoc, rule-ends, rule-last}
 
 -- ---- a buffer that fits its row of the table
 
@@ -85,15 +83,3 @@ sound-stored a d k u r s l b e f =
       used = omega arith;
       rule = rw (records-more k d r l b, rule-snoc a NoSegment (recordsOf k d) r, e, f);
     })
-
--- the last record at another length
-pub sound-grown : (a : ℕ) (d : List ℕ) (k : ℕ) (r : SegmentRecord) → Bytes d → testOf a d (k + 1) ≡ sound → r .id ≡ recordAt (drop (24 * k) d) .id → r .start ≡ recordAt (drop (24 * k) d) .start → endOf r ≤ a → testOf a (sets d (24 * k) (recordBytes r)) (k + 1) ≡ sound
-sound-grown a d k r b e i t l =
-    let s = sound-says a d (k + 1) e in
-    let q = recordAt (drop (24 * k) d) in
-    let last = lastOf NoSegment (recordsOf k d) in
-    let p = and-eq-true-iff _ _ .0 (sym (rule-snoc a NoSegment (recordsOf k d) q) ∙ ap (ruleFrom a NoSegment) (sym (records-snoc k d)) ∙ s .rule) in
-    let f = follows-says a last q (p .1) in
-    let h = record-held (drop (24 * k) d) (bytes-drop (24 * k) d b) in
-    sound-stored a d k (k + 1) r s (s .used) (record { id = rw i (h .id); start = rw t (h .start); length = omega arith }) (p .0)
-    (follows-so a last r (record { id = rw i (f .id); start = rw t (f .start); end = l }))

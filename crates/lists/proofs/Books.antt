@@ -14,7 +14,7 @@ use Rattle.records.specs.Dense.{dense, recordsOf, All}
 use Rattle.records.specs.Halving.{foundIn}
 use Rattle.records.specs.declared.Found.{Found}
 use Rattle.records.specs.declared.Found.the-variants.{At, Gap}
-use Rattle.records.proofs.Dense.{dense-none, dense-length, dense-added, records-back}
+use Rattle.records.proofs.Dense.{all-append, dense-none, dense-length, dense-added, records-back}
 use Rattle.lists.specs.Entries.{entryRecordAt, entryRecordBytes, highestIn, EntryFits}
 use Rattle.lists.specs.Transactions.{transactionAt, transactionBytes, note, noteAll, transactionsOf}
 use Rattle.lists.specs.Admit.{Ledger, orderIn, beginOf, noteBy, noteOf, noteIf, Book, withEntry, admitOf, admitAll, emptied, filled, fullOf}
@@ -82,10 +82,6 @@ highest-snoc : (done : List EntryRecord) (e : EntryRecord) → highestIn (snoc d
 unfolding highestIn
 highest-snoc [] e = omega arith
 highest-snoc (d ∷ done) e = rw (highest-snoc done e) (omega arith)
-
-all-snoc : (done : List EntryRecord) (e : EntryRecord) → All EntryFits done → EntryFits e → All EntryFits (snoc done e)
-all-snoc [] e fs f = (f, tt)
-all-snoc (d ∷ done) e fs f = (fs .0, all-snoc done e (fs .1) f)
 
 -- ---- what the lists are after some entries: by which of them is full
 
@@ -206,7 +202,7 @@ module _ (E T : ℕ) where
   steps done b [] fs gs h o = rw append-nil o
   steps done b (e ∷ es) fs gs h o =
       rw (← append-snoc done e es)
-      (steps (snoc done e) (admitOf b e) es (all-snoc done e fs (gs .0)) (gs .1) (rw (length-snoc done e) (omega arith))
+      (steps (snoc done e) (admitOf b e) es (all-append EntryFits done (e ∷ []) fs (gs .0, tt)) (gs .1) (rw (length-snoc done e) (omega arith))
       (step done b e (transactions-fit done fs (omega arith)) o))
 
 -- ---- all the entries of a log

@@ -1,30 +1,28 @@
 -- What a plan says of the record and the place that it gives, and that the directory keeps its rule.
 -- Assumes nothing.
-use mathlib.Core.Path.{_≡_, refl, ap, _∙_}
-use mathlib.Core.Bool.{Bool, true, false, cond}
-use mathlib.Core.List.{List}
+use mathlib.Core.Path.{_≡_, refl, ap, sym, _∙_}
+use mathlib.Core.Bool.{Bool, true, false, cond, and-eq-true-iff}
+use mathlib.Core.List.{List, [], _∷_, _++_}
 use mathlib.Core.Logic.{_⊎_, inl, inr, ⊎-elim}
 use Prim.Native.Nat.{ℕ, zero, suc, _+_, _-_, _*_, _/_, _^_, _<_, _≤_}
 use native.Mathlib.Omega.{arith}
 use borrow.Author.Tests.{lt-ltb}
 use lib.Dec.{leb, eqb}
-use lib.ListN.{length, drop}
-use lib.Seq.{sets}
-use Rattle.fields.specs.Le.{Bytes}
-use Rattle.fields.proofs.Numbers.{bytes-drop}
+use lib.ListN.{length, getD}
+use lib.Seq.{sets, getD-at}
 use Rattle.fields.proofs.Cases.{caseB, tests}
 use Rattle.refusal.specs.Answer.{refused, accepted, andThen, sound}
 use Rattle.refusal.proofs.Answers.{never-both, then-says}
 use Rattle.directory.specs.Lent.{mostOf}
 use Rattle.directory.specs.declared.lent.Lent.the-variants.{Directory}
-use Rattle.directory.specs.Record.{recordAt, recordBytes, recordsOf, endOf}
-use Rattle.directory.specs.Rule.{testOf, followsOf, endBefore, afterRecord}
+use Rattle.directory.specs.Record.{recordBytes, recordsOf, endOf}
+use Rattle.directory.specs.Rule.{testOf, endBefore, afterRecord, ruleFrom}
 use Rattle.directory.specs.declared.record.SegmentRecord.{SegmentRecord}
 use Rattle.directory.specs.declared.rule.Last.{Last}
 use Rattle.directory.specs.declared.rule.Last.the-variants.{NoSegment, Segment}
-use Rattle.directory.proofs.Records.{record-held}
-use Rattle.directory.proofs.Rules.{follows-says, follows-so, lastOf, last-record}
-use Rattle.directory.proofs.Sound.{sound-says, sound-ends, sound-last, sound-stored, sound-grown}
+use Rattle.directory.proofs.Records.{Held, length-records, record-of, records-snoc, records-more}
+use Rattle.directory.proofs.Rules.{Follows, follows-says, follows-so, lastOf, last-record, rule-snoc}
+use Rattle.directory.proofs.Sound.{sound-says, sound-ends, sound-last, sound-stored}
 use Rattle.plan.specs.Plan.{lastUsed, lastIn, newSegment, noNextId, nextOf, newSegmentOf, appendTestOf, writeBehind, behindOf, planOf, planAppendOf}
 use Rattle.plan.specs.declared.Write.{Write}
 
@@ -75,9 +73,36 @@ module _ (d : List ℕ) (used : ℕ) (h : 0 < used) where
   pub last-in : (area : ℕ) → testOf area d used ≡ sound → endOf (lastUsed d used) ≤ area
   last-in area e = sound-ends area d used e (used - 1) (omega arith)
 
--- an id below the last one has a next
-next-id : (s : List ℕ) → Bytes s → noNextId (afterRecord (recordAt s)) ≡ false → recordAt s .id + 1 < 2 ^ 64
-next-id s b e = omega (arith, tests, record-held s b .id)
+-- the last id has 8 bytes
+abbrev pub IdFits : Last → Type 0
+IdFits NoSegment = Unit {0}
+IdFits (Segment id end) = id < 2 ^ 64
+
+-- ---- a record stored behind the first k: the directory keeps its rule, and has these and then it
+
+pub record Stored (area : ℕ) (d : List ℕ) (k : ℕ) (r : SegmentRecord) : Type 0 where
+  pub keeps : testOf area (sets d (24 * k) (recordBytes r)) (k + 1) ≡ sound
+  pub records : recordsOf (k + 1) (sets d (24 * k) (recordBytes r)) ≡ recordsOf k d ++ (r ∷ [])
+  pub last : lastUsed (sets d (24 * k) (recordBytes r)) (k + 1) ≡ r
+  pub id : r .id < 2 ^ 64
+
+stores : (area : ℕ) (d : List ℕ) (used k : ℕ) (r : SegmentRecord) → testOf area d used ≡ sound → 24 * (k + 1) ≤ length d → r .id < 2 ^ 64 → ruleFrom area NoSegment (recordsOf k d) ≡ true → Follows area (lastOf NoSegment (recordsOf k d)) r → Stored area d k r
+stores area d used k r s unused id rule follows =
+    let directory = sets d (24 * k) (recordBytes r) in
+    let t = sound-says area d used s in
+    let held : Held r = record { id = id; start = omega (arith, t .area, follows .end); length = omega (arith, t .area, follows .end) } in
+    let more : recordsOf (k + 1) directory ≡ recordsOf k d ++ (r ∷ []) = records-more k d r unused held in
+    let one : k + 1 - 1 ≡ k = omega arith in
+    record {
+      keeps = sound-stored area d k used r t unused held rule (follows-so area (lastOf NoSegment (recordsOf k d)) r follows);
+      records = more;
+      last =
+          rw one
+          (sym (record-of (k + 1) directory k r (omega arith))
+          ∙ ap (λ (rs : List SegmentRecord). getD rs k r) more
+          ∙ getD-at (recordsOf k d) r [] r k (length-records k d));
+      id = id;
+    }
 
 -- ---- opening and rotating
 
@@ -108,32 +133,21 @@ unfolding lastOf recordsOf
 last-in-is d zero = rw (last-none d)
 last-in-is d (suc n) = rw (last-some d n) (last-is d (suc n) (omega arith))
 
--- the new segment's id has 8 bytes
-new-id : (d : List ℕ) (used : ℕ) → Bytes d → noNextId (lastIn d used) ≡ false → newSegment (lastIn d used) .id < 2 ^ 64
+-- a new segment follows the last one
+new-follows : (area : ℕ) (last : Last) → endBefore last ≤ area → IdFits last → noNextId last ≡ false → Follows area last (newSegment last) × (newSegment last .id < 2 ^ 64)
 unfolding newSegment
-new-id d zero b e = rw (last-none d) (omega arith)
-new-id d (suc n) b e =
-    rw (last-some d n) (next-id (drop (24 * (suc n - 1)) d) (bytes-drop (24 * (suc n - 1)) d b) (rw (last-some d n) at e))
+new-follows area NoSegment h i e = (record { id = refl; start = omega arith; end = omega arith }, omega arith)
+new-follows area (Segment id end) h i e =
+    (record { id = lt-ltb id (id + 1) (omega arith); start = omega arith; end = omega arith }, omega (arith, tests))
 
-new-follows : (area : ℕ) (last : Last) → endBefore last ≤ area → followsOf area last (newSegment last) ≡ true
-unfolding newSegment
-new-follows area NoSegment h = follows-so area NoSegment (record { id = 1; start = 0; length = 0 }) (record { id = refl; start = omega arith; end = omega arith })
-new-follows area (Segment id end) h = follows-so area (Segment id end) (record { id = id + 1; start = end; length = 0 }) (record { id = lt-ltb id (id + 1) (omega arith); start = omega arith; end = omega arith })
-
--- the directory keeps its rule
-pub open-keeps : (area : ℕ) (d : List ℕ) (used : ℕ) (s : SegmentRecord) → Bytes d → newSegmentOf area d used ≡ accepted s → testOf area (sets d (24 * used) (recordBytes s)) (used + 1) ≡ sound
-open-keeps area d used s b e =
+pub open-stores : (area : ℕ) (d : List ℕ) (used : ℕ) (s : SegmentRecord) → IdFits (lastIn d used) → newSegmentOf area d used ≡ accepted s → Stored area d used s
+open-stores area d used s i e =
     let o = open-says area d used s e in
     let u = o .next .unused in
-    let q = sound-says area d used (o .sounds) in
     let last = lastIn d used in
-    let f = new-follows area last (rw (last-in-is d used) at (sound-last area d used (o .sounds))) in
-    let g = follows-says area last (newSegment last) f in
+    let f = new-follows area last (rw (last-in-is d used) at (sound-last area d used (o .sounds))) i (o .next .id) in
     rw (o .segment)
-    (sound-stored area d used used (newSegment last) q (omega arith)
-    (record { id = new-id d used b (o .next .id); start = omega arith; length = omega arith })
-    (q .rule)
-    (rw (last-in-is d used) f))
+    (stores area d used used (newSegment last) (o .sounds) (omega arith) (f .1) (sound-says area d used (o .sounds) .rule) (rw (last-in-is d used) (f .0)))
 
 -- ---- an append
 
@@ -180,28 +194,36 @@ plan-id bound area d used payload w h p =
     (λ r. inr (rw (r .behind .write) (record { rotated = refl; id = refl; start = refl; k = refl })))
     (plan-says bound area d used payload w p)
 
--- the directory keeps its rule, rotated or not
-pub plan-keeps : (bound area : ℕ) (d : List ℕ) (used payload : ℕ) (w : Write) → Bytes d → testOf area d used ≡ sound → 0 < used → planOf bound area d used payload ≡ accepted w → testOf area (sets d (24 * w .k) (recordBytes (w .segment))) (w .k + 1) ≡ sound
+-- the last used record behind those before it
+last-parts : (area : ℕ) (d : List ℕ) (used : ℕ) → 0 < used → testOf area d used ≡ sound → (ruleFrom area NoSegment (recordsOf (used - 1) d) ≡ true) × Follows area (lastOf NoSegment (recordsOf (used - 1) d)) (lastUsed d used)
+last-parts area d used h e =
+    let n : used ≡ used - 1 + 1 = omega arith in
+    let rule : ruleFrom area NoSegment (recordsOf (used - 1 + 1) d) ≡ true = rw (← n) (sound-says area d used e .rule) in
+    let p = and-eq-true-iff _ _ .0 (sym (rule-snoc area NoSegment (recordsOf (used - 1) d) (lastUsed d used)) ∙ ap (ruleFrom area NoSegment) (sym (records-snoc (used - 1) d)) ∙ rule) in
+    (p .0, follows-says area _ (lastUsed d used) (p .1))
+
+-- rotated or not
+pub plan-stores : (bound area : ℕ) (d : List ℕ) (used payload : ℕ) (w : Write) → lastUsed d used .id < 2 ^ 64 → testOf area d used ≡ sound → 0 < used → planOf bound area d used payload ≡ accepted w → Stored area d (w .k) (w .segment)
 unfolding newSegment
-plan-keeps bound area d used payload w b e h p =
-    ⊎-elim (λ i. rw (i .write) (grown (i .room))) (λ r. rw (r .behind .write) (rotated (r .next) (r .behind .room)))
+plan-stores bound area d used payload w i e h p =
+    ⊎-elim (λ b. rw (b .write) (grown (b .room))) (λ r. rw (r .behind .write) (rotated (r .next) (r .behind .room)))
     (plan-says bound area d used payload w p)
   where
-    grown : endOf (lastUsed d used) + (13 + payload) ≤ area → testOf area (sets d (24 * (used - 1)) (recordBytes (writeBehind (lastUsed d used) (used - 1) false payload .segment))) (used - 1 + 1) ≡ sound
+    grown : endOf (lastUsed d used) + (13 + payload) ≤ area → Stored area d (used - 1) (writeBehind (lastUsed d used) (used - 1) false payload .segment)
     grown m =
-        let u : used - 1 + 1 ≡ used = omega arith in
-        sound-grown area d (used - 1) (writeBehind (lastUsed d used) (used - 1) false payload .segment) b (rw u e) refl refl (omega arith)
+        let t = sound-says area d used e in
+        let q = last-parts area d used h e in
+        let u : 24 * (used - 1 + 1) ≤ length d = omega (arith, t .used) in
+        stores area d used (used - 1) (writeBehind (lastUsed d used) (used - 1) false payload .segment) e u i (q .0)
+        (record { id = q .1 .id; start = q .1 .start; end = omega arith })
 
-    rotated : HasNext (afterRecord (lastUsed d used)) used (length d / 24) → endOf (newSegment (afterRecord (lastUsed d used))) + (13 + payload) ≤ area → testOf area (sets d (24 * used) (recordBytes (writeBehind (newSegment (afterRecord (lastUsed d used))) used true payload .segment))) (used + 1) ≡ sound
+    rotated : HasNext (afterRecord (lastUsed d used)) used (length d / 24) → endOf (newSegment (afterRecord (lastUsed d used))) + (13 + payload) ≤ area → Stored area d used (writeBehind (newSegment (afterRecord (lastUsed d used))) used true payload .segment)
     rotated n m =
         let q = lastUsed d used in
-        let t = sound-says area d used e in
-        let i = next-id (drop (24 * (used - 1)) d) (bytes-drop (24 * (used - 1)) d b) (n .id) in
-        let r = writeBehind (newSegment (afterRecord q)) used true payload .segment in
         let u = n .unused in
-        sound-stored area d used used r t (omega arith) (record { id = i; start = omega arith; length = omega arith }) (t .rule)
-        (rw (last-is d used h)
-        (follows-so area (afterRecord q) r (record { id = lt-ltb (q .id) (q .id + 1) (omega arith); start = omega arith; end = omega arith })))
+        let f = new-follows area (afterRecord q) (omega arith) i (n .id) in
+        stores area d used used (writeBehind (newSegment (afterRecord q)) used true payload .segment) e (omega arith) (f .1) (sound-says area d used e .rule)
+        (rw (last-is d used h) (record { id = f .0 .id; start = omega arith; end = omega arith }))
 
 -- ---- with its test
 

@@ -18,6 +18,14 @@ module _ {R : Type 0} (Good : R → Type 0) where
   all-at [] r after gs = gs .0
   all-at (b ∷ bs) r after gs = all-at bs r after (gs .1)
 
+  pub all-append : (xs ys : List R) → All Good xs → All Good ys → All Good (xs ++ ys)
+  all-append [] ys p q = q
+  all-append (x ∷ xs) ys p q = (p .0, all-append xs ys (p .1) q)
+
+  pub all-parts : (xs ys : List R) → All Good (xs ++ ys) → All Good xs × All Good ys
+  all-parts [] ys p = (tt, p)
+  all-parts (x ∷ xs) ys p = let q = all-parts xs ys (p .1) in ((p .0, q .0), q .1)
+
 -- the records of any bytes
 module _ {R : Type 0} (size : ℕ) (read : List ℕ → R) where
   pub length-read : (n : ℕ) (s : List ℕ) → length (recordsOf size read n s) ≡ n

@@ -67,7 +67,7 @@ pub numbers-same : (a : ℕ) → compareNumbers a a ≡ Equal
 unfolding compareNumbers
 numbers-same a = rw (le-ltb a a (omega arith))
 
-less-numbers : (a b : ℕ) → compareNumbers a b ≡ Less → a < b
+pub less-numbers : (a b : ℕ) → compareNumbers a b ≡ Less → a < b
 less-numbers a b e = caseN a b (λ h q. h) (λ h q. let z : _≡_ {A = ℕ} 0 1 = cc in absurd (omega arith)) (λ h q. let z : _≡_ {A = ℕ} 0 1 = cc in absurd (omega arith))
 
 pub numbers-order : IsOrder compareNumbers

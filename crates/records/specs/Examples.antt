@@ -6,7 +6,7 @@ use mathlib.Core.Option.{none, some}
 use Prim.Native.Nat.{ℕ, _+_, _*_}
 use Rattle.fields.specs.Le.{leOf, leBytes, numAt}
 use Rattle.records.specs.Dense.{bytesOf, dense, recordsOf}
-use Rattle.records.specs.Sorted.{compareNumbers, placeOf, recordOf, put, remove}
+use Rattle.records.specs.Sorted.{itself, compareNumbers, placeOf, recordOf, put, remove}
 use Rattle.records.specs.Halving.{halve, halved, foundIn}
 use Rattle.records.specs.Moves.{movedUp, movedDown}
 use Rattle.records.specs.declared.Found.the-variants.{At, Gap}
@@ -20,9 +20,6 @@ unfolding recordsOf leOf
 read-back = refl
 
 -- ---- sorted
-
-abbrev itself : ℕ → ℕ
-itself n = n
 
 abbrev tens : List ℕ
 tens = 10 ∷ 20 ∷ 30 ∷ []

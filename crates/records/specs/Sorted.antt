@@ -19,6 +19,10 @@ byOrder Less a b c = a
 byOrder Equal a b c = b
 byOrder Greater a b c = c
 
+-- the key of a record that is nothing but its key
+abbrev pub itself : {A : Type 0} → A → A
+itself a = a
+
 -- one record further on
 abbrev pub further : Found → Found
 further (At k) = At (suc k)

@@ -2,7 +2,7 @@
 -- Assumes nothing.
 use mathlib.Core.Path.{_≡_, refl, ap, _∙_}
 use mathlib.Core.Bool.{Bool, true, false, cond, _&&_}
-use mathlib.Core.List.{List, [], _∷_, _++_}
+use mathlib.Core.List.{List, [], _∷_}
 use Prim.Native.Nat.{ℕ, suc, _+_, _*_, _/_, _^_, _<_, _≤_}
 use native.Mathlib.Nat.{zero-add}
 use native.Mathlib.Omega.{arith}
@@ -31,8 +31,8 @@ use Rattle.entry.specs.declared.WalEntry.the-variants.{Insert, Update, Delete, 
 use Rattle.scan.specs.Read.{Good, readFrom, readSegment}
 use Rattle.scan.proofs.Goods.{GoodIn, read-each, read-count}
 use Rattle.records.specs.Dense.{All}
+use Rattle.records.proofs.Dense.{all-append}
 use Rattle.lists.specs.Entries.{listed, EntryFits}
-use Rattle.lists.specs.declared.entries.EntryRecord.{EntryRecord}
 use Rattle.lists.specs.Admit.{Book, book, emptied, filled, admitAll, fullOf}
 use Rattle.lists.specs.declared.admit.Full.{Full}
 use Rattle.lists.specs.declared.admit.Full.the-variants.{Room, Transactions, Entries}
@@ -59,10 +59,6 @@ all-listed : (base : ℕ) (s : List ℕ) → base + length s ≤ 1_073_741_824 �
 all-listed base s h b [] e = tt
 all-listed base s h b (g ∷ gs) e = (listed-fits base s g h b (e .0), all-listed base s h b gs (e .1))
 
-pub all-both : (P : EntryRecord → Type 0) (xs ys : List EntryRecord) → All P xs → All P ys → All P (xs ++ ys)
-all-both P [] ys p q = q
-all-both P (x ∷ xs) ys p q = (p .0, all-both P xs ys (p .1) q)
-
 -- a segment's image is not longer than its record says
 image-most : (area : List ℕ) (r : SegmentRecord) → length (segmentBytes area r) ≤ r .length
 unfolding segmentBytes
@@ -84,7 +80,7 @@ log-fits area last (r ∷ rs) b h e =
     let f = follows-says (length area) last r (p .0) in
     let s = segmentBytes area r in
     let fits : r .start + length s ≤ 1_073_741_824 = omega (arith, f .end, image-most area r) in
-    all-both EntryFits (listedFrom (r .start) (readFrom s 0 .good)) (readLog area rs .entries)
+    all-append EntryFits (listedFrom (r .start) (readFrom s 0 .good)) (readLog area rs .entries)
     (all-listed (r .start) s fits (segment-bytes area r b) (readFrom s 0 .good) (read-each s 0))
     (log-fits area (afterRecord r) rs b h (p .1))
 

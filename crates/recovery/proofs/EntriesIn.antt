@@ -15,7 +15,7 @@ use Rattle.records.specs.Dense.{All}
 use Rattle.lists.specs.Entries.{listed}
 use Rattle.recovery.specs.Log.{listedFrom, readLog}
 use Rattle.recovery.specs.Payload.{payloadIn, EntryIn}
-use Rattle.recovery.proofs.Concludes.{all-both}
+use Rattle.records.proofs.Dense.{all-append}
 
 -- a part of a beginning is a part of the whole
 part-of : (i n m : ℕ) (l : List ℕ) → i + n ≤ m → take n (drop i (take m l)) ≡ take n (drop i l)
@@ -44,6 +44,6 @@ pub log-in : (area : List ℕ) (rs : List SegmentRecord) → All (EntryIn area) 
 unfolding readLog readSegment
 log-in area [] = tt
 log-in area (r ∷ rs) =
-    all-both (EntryIn area) (listedFrom (r .start) (readFrom (segmentBytes area r) 0 .good)) (readLog area rs .entries)
+    all-append (EntryIn area) (listedFrom (r .start) (readFrom (segmentBytes area r) 0 .good)) (readLog area rs .entries)
     (all-in area r (readFrom (segmentBytes area r) 0 .good) (read-each (segmentBytes area r) 0))
     (log-in area rs)

@@ -10,7 +10,7 @@ use native.Mathlib.Omega.{arith}
 use lib.Dec.{eqb}
 use Rattle.fields.proofs.Cases.{caseB}
 use Rattle.fields.specs.declared.bytes.Ordering.the-variants.{Less}
-use Rattle.records.specs.Sorted.{compareNumbers, Before, Ascends}
+use Rattle.records.specs.Sorted.{itself, compareNumbers, Before, Ascends}
 use Rattle.records.specs.Dense.{All}
 use Rattle.records.proofs.Sorted.{numbers-order, rest-behind, member-record, record-member}
 use Rattle.lists.specs.Markers.{ifCommitted, hasNumber, lastMarker, countOf, saidOf}
@@ -23,10 +23,6 @@ use Rattle.lists.proofs.Numbers.{transactions-ascend, transaction-is}
 use Rattle.store.specs.Order.{committedOf, replayOrder}
 
 -- ---- "by ascending number"
-
--- a number is its own key
-abbrev pub itself : ℕ → ℕ
-itself number = number
 
 -- what holds of the numbers of all holds of the committed
 committed-all : (Good : ℕ → Type 0) (ts : List TransactionRecord) → All (λ (t : TransactionRecord). Good (t .«tx_id»)) ts → All Good (committedOf ts)
