@@ -11,12 +11,15 @@ use Rattle.table.specs.Row.{rowOf}
 use Rattle.table.specs.Table.{tableOf}
 use Rattle.crash.specs.Request.{Written}
 use Rattle.crash.specs.Life.{Held, cutBy}
-use Rattle.crash.specs.Crash.{Lent, recovering, replaying, Follows, Demand3, AnyHistory}
+use Rattle.crash.specs.Crash.{Lent, recovering, replaying, Follows, cutOf, Demand3, AnyHistory}
+use Rattle.crash.specs.Kept.{keptBy}
+use Rattle.crash.specs.Operator.{Relies, NoTrace}
 use Rattle.crash.specs.Words.{readAs, numbers}
 use Rattle.crash.specs.Example.{story, computed, given}
 use Rattle.crash.specs.TwoCuts.{later, later-so, later-lived, earlier, earlier-so, earlier-lived}
 use Rattle.crash.proofs.Orders.{table-is}
 use Rattle.crash.proofs.Crash.{demand-3, any-history}
+use Rattle.crash.proofs.Operator.{cut-relies, no-trace}
 
 -- one run and one cut
 pub story-follows : Demand3 story
@@ -29,6 +32,13 @@ later-follows = any-history later later-lived
 -- two cuts, and the first tear is gone
 pub earlier-follows : AnyHistory earlier
 earlier-follows = any-history earlier earlier-lived
+
+-- what an operator relies on, of the cut one
+pub story-relies : Relies (replaying (cutBy (story .cut) (story .log) .held) (story .lent) .table) (keptBy (cutOf story) (story .log .entries)) (story-follows .order)
+story-relies = cut-relies story given story-follows
+
+pub story-no-trace : NoTrace story
+story-no-trace = no-trace story given
 
 -- ---- the numbers and the tables
 

@@ -3,7 +3,6 @@
 use Prim.Native.Nat.{ℕ, _/_, _≤_}
 use mathlib.Core.Path.{_≡_, refl, ap, _∙_}
 use mathlib.Core.List.{List, [], _∷_}
-use native.Mathlib.Omega.{arith}
 use borrow.Author.Tests.{le-leb}
 use lib.ListN.{length, length-map}
 use Rattle.refusal.specs.Answer.{accepted}
@@ -16,7 +15,6 @@ use Rattle.recovery.specs.Recover.{statsOf, recoveredOf, listing, readInto, lis
 use Rattle.recovery.proofs.Accepts.{Accepted}
 use Rattle.store.specs.Order.{replayOrder, replayed}
 use Rattle.store.specs.Change.{runOf}
-use Rattle.store.proofs.Committed.{order-exactly}
 use Rattle.store.proofs.Replays.{replay-is}
 use Rattle.crash.specs.Request.{Written}
 use Rattle.crash.specs.Kept.{listedAs, listedAll}
@@ -26,8 +24,8 @@ use Rattle.crash.specs.Crash.{Lent, Enough, recovering, replaying, IsSto
 use Rattle.crash.proofs.Segments.{Segment, leftOf, tornOf, Holds}
 use Rattle.crash.proofs.Listings.{readAs, segments-read, segments-kept}
 use Rattle.crash.proofs.Holdings.{Kept}
-use Rattle.crash.proofs.Rooms.{numbers-most}
-use Rattle.crash.proofs.Orders.{order-ascending}
+use Rattle.crash.proofs.Rooms.{transactions-fit, keys-fit}
+use Rattle.crash.proofs.Orders.{order-committed, order-ascending}
 use Rattle.crash.proofs.Settles.{settled}
 
 stored-all : (area : List ℕ) (ws : List Written) → All (Kept area) ws → All (IsStored area) ws
@@ -48,7 +46,7 @@ module _ (h : Held) (ss : List Segment) (holds : Holds h ss) (lent : Lent) (enou
   entries-fit = rw (read-is, length-map kept listedAs) (enough .every-entry)
 
   numbers-fit : length (transactionsOf (log .entries)) ≤ length (lent .transactions) / 24
-  numbers-fit = rw read-is (omega (arith, numbers-most kept, enough .every-number))
+  numbers-fit = rw read-is (transactions-fit kept lent enough)
 
   recovers : recovering h lent ≡ listing log (length (lent .entries)) (length (lent .transactions))
   unfolding recoverOf readInto listsTestOf
@@ -61,7 +59,7 @@ module _ (h : Held) (ss : List Segment) (holds : Holds h ss) (lent : Lent) (enou
   ran : runOf (length (lent .table) / 320) (h .area) (replayed (log .entries)) [] ≡ accepted (runNumbers order kept [])
   ran =
       rw read-is
-      (settled (h .area) kept (segments-kept (h .area) ss (holds .stand)) (length (lent .table) / 320) (enough .every-key))
+      (settled (h .area) kept (segments-kept (h .area) ss (holds .stand)) (length (lent .table) / 320) (keys-fit kept lent enough))
 
   replays : replaying h lent
       ≡ record {
@@ -88,7 +86,7 @@ module _ (h : Held) (ss : List Segment) (holds : Holds h ss) (lent : Lent) (enou
         partials = refl;
         others = refl;
         order = order;
-        committed = λ number. order-exactly number (listedAll kept);
+        committed = λ number. order-committed number kept;
         ascending = order-ascending (listedAll kept);
         replay = replays;
       }

@@ -28,7 +28,7 @@ use Rattle.crash.proofs.Orders.{table-is}
 use Rattle.crash.proofs.Opens.{opening-entries}
 use Rattle.crash.proofs.CutLogs.{cutting-consists, nothing-lost}
 use Rattle.crash.proofs.Lives.{HasSegments, begun-consists, run-torn}
-use Rattle.crash.proofs.Rooms.{enough-kept}
+use Rattle.crash.proofs.Rooms.{keys-fit, enough-kept}
 use Rattle.crash.proofs.Crash.{demand-3, any-history}
 use Rattle.crash.proofs.Touches.{last-touches, one-decides, unnamed-absent}
 use Rattle.crash.proofs.Sources.{rows-source}
@@ -44,7 +44,7 @@ module _ (l : Life) (ss : List Segment) (lent : Lent) (c : Consists l ss) (enoug
     rows-held : Tables.Held (length (lent .table)) rows
     rows-held =
         let kept : All (Kept (l .held .area)) (l .entries) = rw (c .entries) (segments-kept (l .held .area) ss (c .holds .stand)) in
-        settled-held (l .held .area) (l .entries) kept (length (lent .table)) (f .order) (enough .every-key)
+        settled-held (l .held .area) (l .entries) kept (length (lent .table)) (f .order) (keys-fit (l .entries) lent enough)
 
     table-of : replaying (l .held) lent .table ≡ tableOf (length (lent .table)) rows
     table-of = ap (λ (r : Replaying). r .table) (f .replay)

@@ -1,7 +1,7 @@
--- Lists and a table that are large enough for all that was written are so for what is kept of it.
+-- Lists and a table that are large enough: for the transactions and the keys, and for what is kept.
 -- Assumes nothing.
-use Prim.Native.Nat.{ℕ, _≤_}
-use mathlib.Core.List.{List, [], _∷_, map}
+use Prim.Native.Nat.{ℕ, _/_, _≤_}
+use mathlib.Core.List.{List, [], _∷_, map, List·Memᴰ}
 use native.Mathlib.Omega.{arith}
 use lib.Dec.{leb}
 use lib.ListN.{length}
@@ -16,9 +16,9 @@ use Rattle.lists.proofs.Numbers.{transactions-ascend}
 use Rattle.store.specs.Effect.{Effect, puts, drops, keeps}
 use Rattle.crash.specs.Request.{Written}
 use Rattle.crash.specs.Kept.{keptBy, listedAs, listedAll}
-use Rattle.crash.specs.Settings.{effectBy, withKey, keysOf, numberOf, distinct}
+use Rattle.crash.specs.Settings.{effectBy, withKey, keysOf, numberOf}
 use Rattle.crash.specs.Crash.{Lent, Enough}
-use Rattle.crash.proofs.Distinct.{IsIn, distinct-each, distinct-fewer}
+use Rattle.crash.proofs.Distinct.{distinct, IsIn, length-most, all-in, distinct-most}
 
 -- ---- a record for each number
 
@@ -32,13 +32,21 @@ note-all P ts (w ∷ ws) ps qs =
     (put-all compareNumbers txNumber (e .«tx_id») (noted e) (begun e) (λ (t : TransactionRecord). P (t .«tx_id»)) (λ t p. p) (qs .0) ts ps)
     (qs .1)
 
--- there are as many numbers as transactions, at least
-pub numbers-most : (ws : List Written) → length (transactionsOf (listedAll ws)) ≤ length (distinct compareNumbers (map numberOf ws))
+-- the transactions are no more than the numbers that a list holds
+transactions-most : (ws : List Written) (numbers : List ℕ) → All (λ (n : ℕ). List·Memᴰ n numbers) (map numberOf ws) → length (transactionsOf (listedAll ws)) ≤ length numbers
 unfolding transactionsOf
-numbers-most ws =
+transactions-most ws numbers every =
     let ns = map numberOf ws in
-    no-more compareNumbers numbers-order txNumber itself (distinct compareNumbers ns) (transactionsOf (listedAll ws)) (transactions-ascend (listedAll ws))
-    (note-all (IsIn compareNumbers numbers-order ns) [] ws tt (distinct-each compareNumbers numbers-order ns))
+    let few = no-more compareNumbers numbers-order txNumber itself (distinct compareNumbers numbers) (transactionsOf (listedAll ws)) (transactions-ascend (listedAll ws))
+    (note-all (IsIn compareNumbers numbers-order numbers) [] ws tt (all-in compareNumbers numbers-order numbers ns every)) in
+    omega (arith, few, length-most compareNumbers numbers-order numbers)
+
+module _ (ws : List Written) (lent : Lent) (e : Enough ws lent) where
+  pub transactions-fit : length (transactionsOf (listedAll ws)) ≤ length (lent .transactions) / 24
+  transactions-fit = omega (arith, transactions-most ws (e .numbers) (e .every-number), e .number-records)
+
+  pub keys-fit : length (distinct compareBytes (keysOf ws)) ≤ length (lent .table) / 320
+  keys-fit = omega (arith, distinct-most compareBytes bytes-order (e .keys) (keysOf ws) (e .every-key), e .key-records)
 
 -- ---- what is kept
 
@@ -69,15 +77,15 @@ module _ (cut : ℕ) where
 
   pub enough-kept : (ws : List Written) (lent : Lent) → Enough ws lent → Enough (keptBy cut ws) lent
   enough-kept ws lent e =
-      let ns = map numberOf ws in
-      let numbers = distinct-fewer compareNumbers numbers-order ns (map numberOf (keptBy cut ws)) (kept-numbers (IsIn compareNumbers numbers-order ns) ws (distinct-each compareNumbers numbers-order ns)) in
-      let ks = keysOf ws in
-      let keys = distinct-fewer compareBytes bytes-order ks (keysOf (keptBy cut ws)) (kept-keys (IsIn compareBytes bytes-order ks) ws (distinct-each compareBytes bytes-order ks)) in
       record {
         entry-list = e .entry-list;
         every-entry = omega (arith, kept-fewer ws, e .every-entry);
         transaction-list = e .transaction-list;
-        every-number = omega (arith, numbers, e .every-number);
+        numbers = e .numbers;
+        every-number = kept-numbers (λ (n : ℕ). List·Memᴰ n (e .numbers)) ws (e .every-number);
+        number-records = e .number-records;
         table-fits = e .table-fits;
-        every-key = omega (arith, keys, e .every-key);
+        keys = e .keys;
+        every-key = kept-keys (λ (key : List ℕ). List·Memᴰ key (e .keys)) ws (e .every-key);
+        key-records = e .key-records;
       }

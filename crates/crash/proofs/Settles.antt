@@ -33,9 +33,9 @@ use Rattle.store.specs.Effect.{Effect, puts, drops, keeps, effectOf, effectAt, 
 use Rattle.store.proofs.Runs.{run-append, run-held}
 use Rattle.crash.specs.Request.{askedBy, encoded, Written}
 use Rattle.crash.specs.Kept.{listedAs, listedAll}
-use Rattle.crash.specs.Settings.{effectAs, effectBy, settle, runNumber, runNumbers, withKey, keysOf, distinct}
+use Rattle.crash.specs.Settings.{effectAs, effectBy, settle, runNumber, runNumbers, withKey, keysOf}
 use Rattle.crash.proofs.Holdings.{Kept}
-use Rattle.crash.proofs.Distinct.{distinct-own, distinct-had}
+use Rattle.crash.proofs.Distinct.{distinct, distinct-own, distinct-had}
 
 -- ---- the rows stay sorted
 

@@ -6,16 +6,12 @@ use mathlib.Core.Bool.{true, cond}
 use mathlib.Core.Logic.{_↔_}
 use mathlib.Core.List.{List, [], _∷_, map, List·Memᴰ}
 use lib.ListN.{length}
-use Rattle.fields.specs.Order.{compareBytes}
 use Rattle.refusal.specs.Answer.{accepted}
 use Rattle.records.specs.Dense.{dense, All}
-use Rattle.records.specs.Sorted.{compareNumbers}
 use Rattle.directory.specs.Lent.{fitsOf}
 use Rattle.directory.specs.declared.lent.Lent.the-variants as Lends
 use Rattle.lists.specs.Entries.{entryRecordBytes}
-use Rattle.lists.specs.Markers.{lastMarker}
 use Rattle.lists.specs.Transactions.{transactionBytes, transactionsOf}
-use Rattle.lists.specs.declared.transactions.RecoveryAction.the-variants.{Commit}
 use Rattle.recovery.specs.Payload.{payloadIn}
 use Rattle.recovery.specs.Recover.{recoveredOf, Recovering, recoverOf}
 use Rattle.recovery.specs.declared.Recovered.{Recovered}
@@ -24,7 +20,7 @@ use Rattle.store.specs.Replay.{Replaying, replayOf}
 use Rattle.crash.specs.Request.{Request, encoded, Written}
 use Rattle.crash.specs.Kept.{keptBy, isInside, listedAs, listedAll}
 use Rattle.crash.specs.Life.{Held, Life, empty, Cut, cutPlace, IsCut, cutBy, Step, opens, appends, Lives}
-use Rattle.crash.specs.Settings.{runNumbers, keysOf, numberOf, distinct}
+use Rattle.crash.specs.Settings.{runNumbers, isCommitted, keysOf, numberOf}
 
 -- ---- what is lent to recovery and replay
 
@@ -39,9 +35,13 @@ pub record Enough (ws : List Written) (lent : Lent) : Type 0 where
   pub entry-list : fitsOf Lends.EntryList (length (lent .entries)) ≡ true
   pub every-entry : length ws ≤ length (lent .entries) / 32
   pub transaction-list : fitsOf Lends.Transactions (length (lent .transactions)) ≡ true
-  pub every-number : length (distinct compareNumbers (map numberOf ws)) ≤ length (lent .transactions) / 24
+  pub numbers : List ℕ
+  pub every-number : All (λ (n : ℕ). List·Memᴰ n numbers) (map numberOf ws)
+  pub number-records : length numbers ≤ length (lent .transactions) / 24
   pub table-fits : fitsOf Lends.Table (length (lent .table)) ≡ true
-  pub every-key : length (distinct compareBytes (keysOf ws)) ≤ length (lent .table) / 320
+  pub keys : List (List ℕ)
+  pub every-key : All (λ (key : List ℕ). List·Memᴰ key keys) (keysOf ws)
+  pub key-records : length keys ≤ length (lent .table) / 320
 
 abbrev pub recovering : Held → Lent → Recovering
 recovering h lent = recoverOf (h .area) (h .directory) (h .used) (lent .entries) (lent .transactions)
@@ -81,7 +81,7 @@ pub record Follows (h : Held) (kept : List Written) (partial : ℕ) (lent : Lent
   pub others : values ≡ recoveredOf (record { entries = listedAll kept; partial = partial; checksum = 0 })
   -- "by ascending number, the transactions whose last kept marker is a commit"
   pub order : List ℕ
-  pub committed : (number : ℕ) → List·Memᴰ number order ↔ (lastMarker number (listedAll kept) ≡ Commit)
+  pub committed : (number : ℕ) → List·Memᴰ number order ↔ (isCommitted number kept ≡ true)
   pub ascending : Ascending order
   -- replay answers as recovery does, and "leaves the table made by running, one after another" these
   pub replay :

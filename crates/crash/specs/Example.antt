@@ -6,6 +6,8 @@ use mathlib.Core.Path.{_≡_, refl}
 use mathlib.Core.Bool.{true, false, cond}
 use mathlib.Core.List.{List, [], _∷_, _++_, map}
 use native.Mathlib.Omega.{arith}
+use borrow.Author.Tests.{eqb-true}
+use lib.Dec.{eqb}
 use lib.ListN.{length, replicate, take, drop}
 use Rattle.fields.specs.Le.{leOf, leBytes}
 use Rattle.fields.specs.Order.{compareBytes}
@@ -23,10 +25,8 @@ use Rattle.directory.specs.Rule.{liesOf, followsOf, ruleFrom, directoryRule, te
 use Rattle.plan.specs.Plan.{lastIn, newSegment, nextOf, newSegmentOf, appendTestOf, behindOf, planOf, planAppendOf}
 use Rattle.segment.specs.Writing.{openOf, counted, appendEntryOf, appendOf}
 use Rattle.lists.specs.Entries.{highestIn}
-use Rattle.lists.specs.Markers.{lastMarker}
 use Rattle.lists.specs.Tally.{tallyOf}
 use Rattle.lists.specs.Transactions.{noted, begun, note, noteAll, transactionsOf}
-use Rattle.lists.specs.declared.transactions.RecoveryAction.the-variants.{Incomplete, Commit, Rollback}
 use Rattle.recovery.specs.Recover as Recovers
 use Rattle.recovery.specs.Recover.{statsOf, recoveredOf}
 use Rattle.recovery.specs.declared.Next.the-variants.{Number}
@@ -37,10 +37,10 @@ use Rattle.store.specs.Order.{committedOf, replayOrder}
 use Rattle.crash.specs.Request.{Request, encoded, Written}
 use Rattle.crash.specs.Kept.{keptBy, isInside, listedAs, listedAll}
 use Rattle.crash.specs.Life.{Life, empty, opening, appending, Cut, IsCut, Step, opens, appends}
-use Rattle.crash.specs.Settings.{settle, runNumber, runNumbers, keysOf, distinct}
+use Rattle.crash.specs.Settings.{settle, runNumber, runNumbers, isCommitted, hasMarker, keysOf, numberOf}
 use Rattle.crash.specs.Crash.{Enough, Story, Given, cutOf}
 use Rattle.crash.specs.Words.{inserts, updates, deletes, commits, aborts, at, readAs, numbers}
-use Rattle.crash.specs.Runs.{areBytes, isTyped, after, afterAll, accepts, acceptsAll, run-lives, same-front}
+use Rattle.crash.specs.Runs.{areBytes, isTyped, after, afterAll, accepts, acceptsAll, isOne, areAmong, sameList, same-list, are-among, run-lives, same-front}
 
 -- the keys a, b and c
 abbrev a : List ℕ
@@ -104,14 +104,16 @@ pub record Computed : Type 0 where
   pub is-enough : Enough (written .entries) (story .lent)
   -- the writer has rotated twice
   pub segments : recordsOf (written .held .used) (written .held .directory) ≡ record { id = 1; start = 0; length = 246 } ∷ record { id = 2; start = 246; length = 279 } ∷ record { id = 3; start = 525; length = 33 } ∷ []
-  -- the fifth entry's payload, with its number and time
-  pub stored : take 20 (drop 226 (written .held .area)) ≡ encoded (commits 5 2)
+  -- the fifth entry's payload: the commit of 2 at the time 1,005
+  pub stored : take 20 (drop 226 (written .held .area)) ≡ 3 ∷ 0 ∷ 0 ∷ 0 ∷ 2 ∷ 0 ∷ 0 ∷ 0 ∷ 0 ∷ 0 ∷ 0 ∷ 0 ∷ 237 ∷ 3 ∷ 0 ∷ 0 ∷ 0 ∷ 0 ∷ 0 ∷ 0 ∷ []
+  -- the second one's: an update of a by 2 at the time 1,002, from 1 to 2
+  pub stored-update : take 47 (drop 64 (written .held .area)) ≡ (1 ∷ 0 ∷ 0 ∷ 0 ∷ 2 ∷ 0 ∷ 0 ∷ 0 ∷ 0 ∷ 0 ∷ 0 ∷ 0 ∷ 234 ∷ 3 ∷ 0 ∷ 0 ∷ 0 ∷ 0 ∷ 0 ∷ 0 ∷ []) ++ ((1 ∷ 0 ∷ 0 ∷ 0 ∷ 0 ∷ 0 ∷ 0 ∷ 0 ∷ 97 ∷ []) ++ ((1 ∷ 0 ∷ 0 ∷ 0 ∷ 0 ∷ 0 ∷ 0 ∷ 0 ∷ 1 ∷ []) ++ (1 ∷ 0 ∷ 0 ∷ 0 ∷ 0 ∷ 0 ∷ 0 ∷ 0 ∷ 2 ∷ [])))
   -- the cut is inside the eleventh entry, which begins at 465
   pub inside : isInside (cutOf story) (written .entries) ≡ true
   -- ten entries of four transactions, two of them committed, one aborted and one incomplete; one partial write
   pub answer : accepted (recoveredOf (readAs kept partial)) ≡ numbers 10 4 2 1 1 1 0 (Number 5)
   -- why it is 1 and 2 that are run
-  pub markers : map (λ n. lastMarker n (listedAll kept)) (1 ∷ 2 ∷ 3 ∷ 4 ∷ []) ≡ Commit ∷ Commit ∷ Rollback ∷ Incomplete ∷ []
+  pub committed : map (λ n. isCommitted n kept) (1 ∷ 2 ∷ 3 ∷ 4 ∷ []) ≡ true ∷ true ∷ false ∷ false ∷ []
   pub order : replayOrder (listedAll kept) ≡ 1 ∷ 2 ∷ []
   -- a is from 2, though 1 committed later; b is deleted by 2, though 1 set it later; c is from 1
   pub rows : runNumbers (1 ∷ 2 ∷ []) kept [] ≡ rowOf a (2 ∷ []) ∷ rowOf c (1 ∷ []) ∷ []
@@ -133,7 +135,7 @@ pub record Computed : Type 0 where
   pub kept-at-first : keptBy 0 (written .entries) ≡ []
 
 pub computed : Computed
-unfolding written areBytes isTyped accepts acceptsAll after afterAll keptBy isInside listedAs encoded opening appending settle runNumber runNumbers keysOf distinct lastMarker effectOf replayOrder committedOf set removeKey put remove compareNumbers compareBytes transactionsOf noteAll note noted begun openOf appendOf appendEntryOf counted newSegmentOf nextOf lastIn newSegment appendTestOf planAppendOf planOf behindOf testOf fitsOf directoryRule ruleFrom followsOf liesOf recordsOf recordAt recordBytes leBytes leOf asked byKind wellFormed keyFits valueFits isUtf8 completes any Utf8.after Utf8.begun utf8-char utf8-1 utf8-2 utf8-3 utf8-4 tail payloadOf fixedBytes partBytes entryBytes headerOf headerBytes recoveredOf statsOf tallyOf highestIn Recovers.nextOf
+unfolding written isOne areAmong sameList areBytes isTyped accepts acceptsAll after afterAll keptBy isInside listedAs encoded opening appending settle runNumber runNumbers keysOf isCommitted hasMarker effectOf replayOrder committedOf set removeKey put remove compareNumbers compareBytes transactionsOf noteAll note noted begun openOf appendOf appendEntryOf counted newSegmentOf nextOf lastIn newSegment appendTestOf planAppendOf planOf behindOf testOf fitsOf directoryRule ruleFrom followsOf liesOf recordsOf recordAt recordBytes leBytes leOf asked byKind wellFormed keyFits valueFits isUtf8 completes any Utf8.after Utf8.begun utf8-char utf8-1 utf8-2 utf8-3 utf8-4 tail payloadOf fixedBytes partBytes entryBytes headerOf headerBytes recoveredOf statsOf tallyOf highestIn Recovers.nextOf
 computed =
     record {
       is-written = refl;
@@ -152,15 +154,20 @@ computed =
             entry-list = refl;
             every-entry = omega arith;
             transaction-list = refl;
-            every-number = omega arith;
+            numbers = 1 ∷ 2 ∷ 3 ∷ 4 ∷ [];
+            every-number = are-among eqb (λ x y e. eqb-true x y e) (1 ∷ 2 ∷ 3 ∷ 4 ∷ []) (map numberOf (written .entries)) refl;
+            number-records = omega arith;
             table-fits = refl;
-            every-key = omega arith;
+            keys = a ∷ b ∷ c ∷ [];
+            every-key = are-among sameList same-list (a ∷ b ∷ c ∷ []) (keysOf (written .entries)) refl;
+            key-records = omega arith;
           };
       segments = refl;
       stored = refl;
+      stored-update = refl;
       inside = refl;
       answer = refl;
-      markers = refl;
+      committed = refl;
       order = refl;
       rows = refl;
       other-order = refl;

@@ -14,7 +14,7 @@ use Rattle.table.specs.Table.{set, removeKey}
 use Rattle.store.specs.Effect.{effectOf}
 use Rattle.store.specs.Left.{leftBy}
 use Rattle.crash.specs.Request.{Written}
-use Rattle.crash.specs.Settings.{settle, runNumber, runNumbers, keysOf, distinct}
+use Rattle.crash.specs.Settings.{settle, runNumber, runNumbers, hasMarker, isCommitted, keysOf}
 use Rattle.crash.specs.Touch.{names, touches, leavesFrom, leaves}
 
 abbrev by : (tx kind : ℕ) → (key value : List ℕ) → Written
@@ -36,15 +36,18 @@ log =
 record Examples : Type 0 where
   -- "by ascending number": the delete comes last, though it was logged first
   settings : runNumbers (1 ∷ 2 ∷ []) log [] ≡ rowOf a (4 ∷ []) ∷ []
-  -- each key once
-  keys : distinct compareBytes (keysOf log) ≡ a ∷ b ∷ []
+  -- a delete writes none
+  keys : keysOf log ≡ a ∷ b ∷ a ∷ a ∷ []
   -- a delete touches its key, and leaves nothing; a marker touches none, the empty one neither
   touched : touches b 2 log ≡ true
   deleted : leaves b 2 log ≡ none
   by-marker : touches [] 1 log ≡ false
+  -- the last marker decides: a commit and then an abort, and the other way round; an entry behind it changes nothing
+  aborted : isCommitted 1 (by 1 3 [] [] ∷ by 1 4 [] [] ∷ []) ≡ false
+  committed : isCommitted 1 (by 1 4 [] [] ∷ by 1 3 [] [] ∷ by 1 0 a (1 ∷ []) ∷ by 2 4 [] [] ∷ []) ≡ true
   -- the last of a transaction's entries decides
   last : leaves a 1 log ≡ some (4 ∷ [])
 
 examples : Examples
-unfolding runNumbers runNumber settle keysOf distinct touches names leaves leavesFrom leftBy effectOf put remove asked byKind set removeKey compareBytes sameBytes
-examples = record { settings = refl; keys = refl; touched = refl; deleted = refl; by-marker = refl; last = refl }
+unfolding isCommitted hasMarker runNumbers runNumber settle keysOf touches names leaves leavesFrom leftBy effectOf put remove asked byKind set removeKey compareBytes sameBytes
+examples = record { settings = refl; keys = refl; touched = refl; deleted = refl; by-marker = refl; aborted = refl; committed = refl; last = refl }

@@ -73,8 +73,7 @@ pub record NothingLost (s : Story) : Type 0 where
 -- ---- an entry after the cut leaves no trace
 
 -- The cut log is held against the log of a writer that was never asked for the entries after the cut. Recovery leaves the same
--- lists of both, and replay the same table. The answers are told by `Follows` of both: they differ in the count of partial
--- writes alone.
+-- lists of both, and replay the same table. What is answered of each is told by `Follows`.
 pub record NoTrace (s : Story) : Type 0 where
   pub before : List Request
   pub after : List Request

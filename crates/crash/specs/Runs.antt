@@ -1,17 +1,18 @@
--- A history by computation, for the worked instances: what its steps leave, as a function, and that it is lived if every call
--- is accepted. No statement uses it.
+-- A history by computation, for the worked instances: what its steps leave, as a function, that it is lived if every call is
+-- accepted, and tests of what the theorems are given. No statement uses it.
 -- Assumes nothing.
 use Prim.Native.Nat.{ℕ, zero, suc, _^_, _≤_}
-use mathlib.Core.Path.{_≡_, refl, _∙_}
-use mathlib.Core.Bool.{Bool, true, false, _&&_, and-eq-true-iff}
-use mathlib.Core.List.{List, [], _∷_, _++_}
+use mathlib.Core.Path.{_≡_, refl, ap₂, _∙_}
+use mathlib.Core.Bool.{Bool, true, false, _&&_, _||_, and-eq-true-iff}
+use mathlib.Core.List.{List, [], _∷_, _++_, List·Memᴰ, List·Memᴰ·head, List·Memᴰ·tail}
 use mathlib.Core.Option.{Option, none, some}
 use native.Mathlib.Omega.{arith}
-use borrow.Author.Tests.{ltb-true}
-use lib.Dec.{ltb}
+use borrow.Author.Tests.{ltb-true, eqb-true}
+use lib.Dec.{ltb, eqb}
 use lib.ListN.{length, take}
 use lib.Seq.{take-take, take-append-le, length-take-le}
 use Rattle.fields.specs.Le.{Bytes}
+use Rattle.records.specs.Dense.{All}
 use Rattle.lists.specs.Markers.{isThere}
 use Rattle.crash.specs.Request.{Request, Typed}
 use Rattle.crash.specs.Life.{Life, opening, rotating, appending, Step, opens, rotates, appends, power-cut, Leads, Lives}
@@ -47,6 +48,48 @@ is-typed r e =
       old = are-bytes (r .old) (values .0);
       new = are-bytes (r .new) (values .1);
     }
+
+-- ---- that each of some is one of others, as a test
+
+unfoldable pub isOne : {A : Type 0} → (same : A → A → Bool) → List A → A → Bool
+isOne same [] x = false
+isOne same (y ∷ ys) x = same x y || isOne same ys x
+
+unfoldable pub areAmong : {A : Type 0} → (same : A → A → Bool) → List A → List A → Bool
+areAmong same ys [] = true
+areAmong same ys (x ∷ xs) = isOne same ys x && areAmong same ys xs
+
+unfoldable pub sameList : List ℕ → List ℕ → Bool
+sameList [] [] = true
+sameList [] (y ∷ ys) = false
+sameList (x ∷ xs) [] = false
+sameList (x ∷ xs) (y ∷ ys) = eqb x y && sameList xs ys
+
+pub same-list : (xs ys : List ℕ) → sameList xs ys ≡ true → xs ≡ ys
+unfolding sameList
+same-list [] [] e = refl
+same-list [] (y ∷ ys) e = absurd (let z : _≡_ {A = ℕ} 0 1 = cc in omega arith)
+same-list (x ∷ xs) [] e = absurd (let z : _≡_ {A = ℕ} 0 1 = cc in omega arith)
+same-list (x ∷ xs) (y ∷ ys) e =
+    let both = and-eq-true-iff (eqb x y) (sameList xs ys) .0 e in
+    ap₂ (λ (k : ℕ) (ks : List ℕ). k ∷ ks) (eqb-true x y (both .0)) (same-list xs ys (both .1))
+
+module _ {A : Type 0} (same : A → A → Bool) (equal : (x y : A) → same x y ≡ true → x ≡ y) where
+  is-one : (ys : List A) (x : A) → isOne same ys x ≡ true → List·Memᴰ x ys
+  unfolding isOne
+  is-one [] x e = absurd (let z : _≡_ {A = ℕ} 0 1 = cc in omega arith)
+  is-one (y ∷ ys) x e = told (same x y) refl e (is-one ys x)
+    where
+      told : (s : Bool) → same x y ≡ s → (s || isOne same ys x) ≡ true → (isOne same ys x ≡ true → List·Memᴰ x ys) → List·Memᴰ x (y ∷ ys)
+      told true q e go = List·Memᴰ·head (equal x y q)
+      told false q e go = List·Memᴰ·tail (go e)
+
+  pub are-among : (ys xs : List A) → areAmong same ys xs ≡ true → All (λ (x : A). List·Memᴰ x ys) xs
+  unfolding areAmong
+  are-among ys [] e = tt
+  are-among ys (x ∷ xs) e =
+      let both = and-eq-true-iff (isOne same ys x) (areAmong same ys xs) .0 e in
+      (is-one ys x (both .0), are-among ys xs (both .1))
 
 -- ---- a run: calls, and no cut
 

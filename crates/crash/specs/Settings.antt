@@ -1,12 +1,11 @@
 -- "the table made by running, one after another .., the transactions": what an entry does is `effectOf` of `store`.
 -- Assumes nothing.
 use Prim.Native.Nat.{ℕ}
-use mathlib.Core.Bool.{cond}
+use mathlib.Core.Bool.{Bool, false, cond, _&&_, _||_}
 use mathlib.Core.List.{List, [], _∷_}
 use mathlib.Core.Option.{Option, none, some}
 use lib.Dec.{eqb}
-use Rattle.fields.specs.declared.bytes.Ordering.{Ordering}
-use Rattle.records.specs.Sorted.{itself, put}
+use Rattle.payload.specs.Kind.{commitKind, abortKind}
 use Rattle.payload.specs.Content.{Content}
 use Rattle.table.specs.Row.{Row, rowOf}
 use Rattle.table.specs.Table.{set, removeKey}
@@ -38,7 +37,24 @@ unfoldable pub runNumbers : List ℕ → List Written → List Row → List Row
 runNumbers [] ws rows = rows
 runNumbers (n ∷ ns) ws rows = runNumbers ns ws (runNumber n ws rows)
 
--- ---- every "number", and "every key ever written"
+-- ---- "the transactions whose last kept marker is a commit"
+
+abbrev pub isCommit : ℕ → Written → Bool
+isCommit number w = eqb (w .request .tx) number && eqb (w .request .kind) commitKind
+
+abbrev pub isMarker : ℕ → Written → Bool
+isMarker number w = isCommit number w || (eqb (w .request .tx) number && eqb (w .request .kind) abortKind)
+
+unfoldable pub hasMarker : ℕ → List Written → Bool
+hasMarker number [] = false
+hasMarker number (w ∷ ws) = isMarker number w || hasMarker number ws
+
+-- a commit of the number, and no marker of it behind
+unfoldable pub isCommitted : ℕ → List Written → Bool
+isCommitted number [] = false
+isCommitted number (w ∷ ws) = cond (hasMarker number ws) (isCommitted number ws) (isCommit number w)
+
+-- ---- "every key ever written"
 
 -- a delete writes none
 abbrev pub withKey : Effect → List (List ℕ) → List (List ℕ)
@@ -52,8 +68,3 @@ keysOf (w ∷ ws) = withKey (effectBy (w .request)) (keysOf ws)
 
 abbrev pub numberOf : Written → ℕ
 numberOf w = w .request .tx
-
--- each once: put at its place, if it isn't there yet
-unfoldable pub distinct : {K : Type 0} → (compare : K → K → Ordering) → List K → List K
-distinct compare [] = []
-distinct compare (k ∷ ks) = put compare itself k itself k (distinct compare ks)

@@ -5,8 +5,10 @@
 use Prim.Native.Nat.{ℕ}
 use mathlib.Core.Path.{_≡_, refl, ap, _∙_}
 use mathlib.Core.Bool.{true}
-use mathlib.Core.List.{List, [], _∷_, _++_}
+use mathlib.Core.List.{List, [], _∷_, _++_, map}
 use native.Mathlib.Omega.{arith}
+use borrow.Author.Tests.{eqb-true}
+use lib.Dec.{eqb}
 use lib.ListN.{length, replicate, take}
 use Rattle.fields.specs.Le.{leOf, leBytes}
 use Rattle.fields.specs.Order.{compareBytes}
@@ -43,10 +45,10 @@ use Rattle.store.specs.Order.{committedOf, replayOrder}
 use Rattle.crash.specs.Request.{encoded}
 use Rattle.crash.specs.Kept.{keptBy, tornBy, stillTorn, listedAs, listedAll}
 use Rattle.crash.specs.Life.{Life, empty, opening, rotating, appending, Cut, cutPlace, IsCut, cutBy, Step, opens, rotates, appends, power-cut, Lives}
-use Rattle.crash.specs.Settings.{settle, runNumber, runNumbers, keysOf, distinct}
+use Rattle.crash.specs.Settings.{settle, runNumber, runNumbers, keysOf, numberOf}
 use Rattle.crash.specs.Crash.{Lent, Enough, recovering, History, Lived}
 use Rattle.crash.specs.Words.{inserts, commits, at, readAs, numbers}
-use Rattle.crash.specs.Runs.{areBytes, isTyped, accepts, acceptsAll, after, afterAll, run-lives, same-front, lives-then}
+use Rattle.crash.specs.Runs.{areBytes, isTyped, accepts, acceptsAll, after, afterAll, isOne, areAmong, sameList, same-list, are-among, run-lives, same-front, lives-then}
 
 -- the keys a and b
 abbrev a : List ℕ
@@ -203,7 +205,7 @@ begun-so =
     }
 
 pub later-so : Later
-unfolding first second areBytes isTyped accepts acceptsAll after afterAll keptBy tornBy stillTorn listedAs encoded opening rotating appending settle runNumber runNumbers keysOf distinct effectOf replayOrder committedOf set put compareNumbers compareBytes transactionsOf noteAll note noted begun openOf rotateOf appendOf appendEntryOf counted newSegmentOf nextOf lastIn newSegment appendTestOf planAppendOf planOf behindOf testOf fitsOf directoryRule ruleFrom followsOf liesOf recordsOf recordAt recordBytes leBytes leOf asked byKind wellFormed keyFits valueFits isUtf8 completes any Utf8.after Utf8.begun utf8-char utf8-1 utf8-2 utf8-3 utf8-4 tail payloadOf fixedBytes partBytes entryBytes headerOf headerBytes crc32Of register byteStep bitSteps bitStep recoverOf listsTestOf readInto readLog segmentBytes recoveredOf statsOf tallyOf highestIn Recovers.nextOf readSegment readFrom walkFrom walk stepFrom judgeOf headerAt validFor decodeOf keyAndPart pairAt keyAt partAt
+unfolding first second isOne areAmong sameList areBytes isTyped accepts acceptsAll after afterAll keptBy tornBy stillTorn listedAs encoded opening rotating appending settle runNumber runNumbers keysOf effectOf replayOrder committedOf set put compareNumbers compareBytes transactionsOf noteAll note noted begun openOf rotateOf appendOf appendEntryOf counted newSegmentOf nextOf lastIn newSegment appendTestOf planAppendOf planOf behindOf testOf fitsOf directoryRule ruleFrom followsOf liesOf recordsOf recordAt recordBytes leBytes leOf asked byKind wellFormed keyFits valueFits isUtf8 completes any Utf8.after Utf8.begun utf8-char utf8-1 utf8-2 utf8-3 utf8-4 tail payloadOf fixedBytes partBytes entryBytes headerOf headerBytes crc32Of register byteStep bitSteps bitStep recoverOf listsTestOf readInto readLog segmentBytes recoveredOf statsOf tallyOf highestIn Recovers.nextOf readSegment readFrom walkFrom walk stepFrom judgeOf headerAt validFor decodeOf keyAndPart pairAt keyAt partAt
 later-so =
     record {
       is-cut =
@@ -221,9 +223,13 @@ later-so =
             entry-list = refl;
             every-entry = omega arith;
             transaction-list = refl;
-            every-number = omega arith;
+            numbers = 1 ∷ 2 ∷ 3 ∷ [];
+            every-number = are-among eqb (λ x y e. eqb-true x y e) (1 ∷ 2 ∷ 3 ∷ []) (map numberOf (later .log .entries)) refl;
+            number-records = omega arith;
             table-fits = refl;
-            every-key = omega arith;
+            keys = a ∷ b ∷ [];
+            every-key = are-among sameList same-list (a ∷ b ∷ []) (keysOf (later .log .entries)) refl;
+            key-records = omega arith;
           };
       torn =
           ap (λ place. stillTorn place (second .torn) ++ tornBy place (second .entries)) (begun-so .later-place) ∙ refl;
@@ -233,7 +239,7 @@ later-so =
     }
 
 pub earlier-so : Earlier
-unfolding first second third areBytes isTyped accepts acceptsAll after afterAll keptBy tornBy stillTorn listedAs encoded opening rotating appending settle runNumber runNumbers keysOf distinct effectOf replayOrder committedOf set put compareNumbers compareBytes transactionsOf noteAll note noted begun openOf rotateOf appendOf appendEntryOf counted newSegmentOf nextOf lastIn newSegment appendTestOf planAppendOf planOf behindOf testOf fitsOf directoryRule ruleFrom followsOf liesOf recordsOf recordAt recordBytes leBytes leOf asked byKind wellFormed keyFits valueFits isUtf8 completes any Utf8.after Utf8.begun utf8-char utf8-1 utf8-2 utf8-3 utf8-4 tail payloadOf fixedBytes partBytes entryBytes headerOf headerBytes recoveredOf statsOf tallyOf highestIn Recovers.nextOf
+unfolding first second third isOne areAmong sameList areBytes isTyped accepts acceptsAll after afterAll keptBy tornBy stillTorn listedAs encoded opening rotating appending settle runNumber runNumbers keysOf effectOf replayOrder committedOf set put compareNumbers compareBytes transactionsOf noteAll note noted begun openOf rotateOf appendOf appendEntryOf counted newSegmentOf nextOf lastIn newSegment appendTestOf planAppendOf planOf behindOf testOf fitsOf directoryRule ruleFrom followsOf liesOf recordsOf recordAt recordBytes leBytes leOf asked byKind wellFormed keyFits valueFits isUtf8 completes any Utf8.after Utf8.begun utf8-char utf8-1 utf8-2 utf8-3 utf8-4 tail payloadOf fixedBytes partBytes entryBytes headerOf headerBytes recoveredOf statsOf tallyOf highestIn Recovers.nextOf
 earlier-so =
     record {
       is-cut =
@@ -252,9 +258,13 @@ earlier-so =
             entry-list = refl;
             every-entry = omega arith;
             transaction-list = refl;
-            every-number = omega arith;
+            numbers = 1 ∷ 2 ∷ [];
+            every-number = are-among eqb (λ x y e. eqb-true x y e) (1 ∷ 2 ∷ []) (map numberOf (third .entries)) refl;
+            number-records = omega arith;
             table-fits = refl;
-            every-key = omega arith;
+            keys = a ∷ b ∷ [];
+            every-key = are-among sameList same-list (a ∷ b ∷ []) (keysOf (third .entries)) refl;
+            key-records = omega arith;
           };
       torn = refl;
       answer = refl;

@@ -1,5 +1,6 @@
 -- Document 01: "applies committed transactions by ascending number (the Rust's order is a hash set's), each one's entries in
--- log order". This is the one place that says the order; whoever speaks of it names it.
+-- log order". In code and definitions this is the one place that says it; `crash` says it
+-- once more, of the table.
 -- Assumes nothing.
 use Prim.Native.Nat.{ℕ}
 use mathlib.Core.List.{List, [], _∷_, _++_}
