@@ -11,10 +11,10 @@ use Rattle.table.specs.Row.{rowOf}
 use Rattle.table.specs.Table.{tableOf}
 use Rattle.crash.specs.Request.{Written}
 use Rattle.crash.specs.Life.{Held, cutBy}
-use Rattle.crash.specs.Crash.{Lent, recovering, replaying, Follows, cutOf, Demand3, AnyHistory}
+use Rattle.crash.specs.Crash.{Lent, recovering, replaying, readAs, Follows, cutOf, Demand3, AnyHistory}
 use Rattle.crash.specs.Kept.{keptBy}
 use Rattle.crash.specs.Operator.{Relies, NoTrace}
-use Rattle.crash.specs.Words.{readAs, numbers}
+use Rattle.crash.specs.Words.{numbers}
 use Rattle.crash.specs.Example.{story, computed, given}
 use Rattle.crash.specs.TwoCuts.{later, later-so, later-lived, earlier, earlier-so, earlier-lived}
 use Rattle.crash.proofs.Orders.{table-is}

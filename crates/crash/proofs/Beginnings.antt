@@ -33,14 +33,14 @@ abbrev pub Rises : (at : ℕ) → List Written → Type 0
 Rises at [] = Unit {0}
 Rises at (w ∷ ws) = (at ≤ w .end) × Rises (w .end) ws
 
-abbrev EndsBy : (cut : ℕ) → Written → Type 0
-EndsBy cut w = w .end ≤ cut
+abbrev Ended : (cut : ℕ) → Written → Type 0
+Ended cut w = w .end ≤ cut
 
 rises-over : (at from : ℕ) (ws : List Written) → at ≤ from → Rises from ws → Rises at ws
 rises-over at from [] h r = tt
 rises-over at from (w ∷ ws) h r = (omega (arith, r .0), r .1)
 
-rises-append : (at from : ℕ) (xs ys : List Written) → at ≤ from → Rises at xs → All (EndsBy from) xs → Rises from ys → Rises at (xs ++ ys)
+rises-append : (at from : ℕ) (xs ys : List Written) → at ≤ from → Rises at xs → All (Ended from) xs → Rises from ys → Rises at (xs ++ ys)
 rises-append at from [] ys h r e q = rises-over at from ys h q
 rises-append at from (x ∷ xs) ys h r e q = (r .0, rises-append (x .end) from xs ys (e .0) (r .1) (e .1) q)
 
@@ -49,7 +49,7 @@ rises-behind at [] w ys r = r .1
 rises-behind at (x ∷ xs) w ys r = rises-behind (x .end) xs w ys (r .1)
 
 module _ (cut : ℕ) where
-  kept-ends : (ws : List Written) → All (EndsBy cut) (keptBy cut ws)
+  kept-ends : (ws : List Written) → All (Ended cut) (keptBy cut ws)
   unfolding keptBy
   kept-ends [] = tt
   kept-ends (w ∷ ws) =

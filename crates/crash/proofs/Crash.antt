@@ -6,11 +6,12 @@ use lib.ListN.{length}
 use Rattle.crash.specs.Kept.{keptBy, stillTorn}
 use Rattle.crash.specs.Life.{Life, empty, IsCut, cutBy, Lives, opens, appends, power-cut}
 use Rattle.crash.specs.Crash.{Lent, Enough, Follows, Story, Given, cutOf, Demand3, History, Lived, AnyHistory}
+use Rattle.crash.specs.Runs.{lives-then}
 use Rattle.crash.proofs.Lefts.{torn-inside}
 use Rattle.crash.proofs.Segments.{Segment, Consists}
 use Rattle.crash.proofs.Gives.{holds-follows}
 use Rattle.crash.proofs.CutLogs.{cut-once}
-use Rattle.crash.proofs.Lives.{begun-consists, lives-more, run-torn}
+use Rattle.crash.proofs.Lives.{begun-consists, run-torn}
 use Rattle.crash.proofs.Rooms.{enough-kept}
 
 consists-follows : (l : Life) (ss : List Segment) (lent : Lent) → Consists l ss → Enough (l .entries) lent → Follows (l .held) (l .entries) (length (l .torn)) lent
@@ -29,7 +30,7 @@ demand-3-kept s written is-cut enough =
     let steps = map appends (s .requests) in
     let start = empty (s .area) (s .directory) in
     let after = cutBy (s .cut) (s .log) in
-    let lived = lives-more (opens (s .bound) ∷ steps) (power-cut (s .cut)) start (s .log) after written (is-cut, refl) in
+    let lived = lives-then (opens (s .bound) ∷ steps) (power-cut (s .cut) ∷ []) start (s .log) after written (after, ((is-cut, refl), refl)) in
     let follows =
     any-history
     (record { bound = s .bound; area = s .area; directory = s .directory; steps = steps ++ (power-cut (s .cut) ∷ []); log = after; lent = s .lent })

@@ -20,9 +20,9 @@ use Rattle.crash.specs.Request.{Written}
 use Rattle.crash.specs.Kept.{listedAs, listedAll}
 use Rattle.crash.specs.Life.{Held}
 use Rattle.crash.specs.Settings.{runNumbers}
-use Rattle.crash.specs.Crash.{Lent, Enough, recovering, replaying, IsStored, Follows}
+use Rattle.crash.specs.Crash.{Lent, Enough, recovering, replaying, IsStored, readAs, Follows}
 use Rattle.crash.proofs.Segments.{Segment, leftOf, tornOf, Holds}
-use Rattle.crash.proofs.Listings.{readAs, segments-read, segments-kept}
+use Rattle.crash.proofs.Listings.{segments-read, segments-kept}
 use Rattle.crash.proofs.Holdings.{Kept}
 use Rattle.crash.proofs.Rooms.{transactions-fit, keys-fit}
 use Rattle.crash.proofs.Orders.{order-committed, order-ascending}

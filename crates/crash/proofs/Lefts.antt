@@ -12,16 +12,13 @@ use Rattle.fields.proofs.Cases.{caseB}
 use Rattle.lists.specs.declared.entries.EntryRecord.{EntryRecord}
 use Rattle.recovery.specs.Log.{LogRead}
 use Rattle.crash.specs.Request.{Request, encoded, Written}
-use Rattle.crash.specs.Kept.{keptBy, startOf, within, isInside, tornBy, stillTorn, listedAs, listedAll}
+use Rattle.crash.specs.Kept.{keptBy, startOf, within, isInside, tornBy, stillTorn, listedAs}
+use Rattle.crash.specs.Crash.{readAs}
 use Rattle.crash.proofs.Images.{imageOf, writtenFrom, image-length}
 
 -- what is read of entries up to a cut
 unfoldable pub readUpTo : (cut : ℕ) → List Written → LogRead
-readUpTo cut ws = record { entries = listedAll (keptBy cut ws); partial = length (tornBy cut ws); checksum = 0 }
-
--- nothing kept, and so many partial writes
-abbrev pub noEntry : (partial : ℕ) → LogRead
-noEntry partial = record { entries = []; partial = partial; checksum = 0 }
+readUpTo cut ws = readAs (keptBy cut ws) (length (tornBy cut ws))
 
 -- an entry in front
 abbrev pub entryThen : EntryRecord → LogRead → LogRead
@@ -67,12 +64,12 @@ torn-behind cut at (r ∷ rs) h =
     let n = 13 + length (encoded r) in
     rw (torn-not cut (record { request = r; end = at + n }) (writtenFrom (at + n) rs) (omega arith), torn-behind cut (at + n) rs (omega arith))
 
-pub left-behind : (cut at : ℕ) (rs : List Request) → cut ≤ at → readUpTo cut (writtenFrom at rs) ≡ noEntry 0
+pub left-behind : (cut at : ℕ) (rs : List Request) → cut ≤ at → readUpTo cut (writtenFrom at rs) ≡ readAs [] 0
 unfolding readUpTo
 left-behind cut at rs h = rw (kept-behind cut at rs h, torn-behind cut at rs h)
 
 -- the cut is inside the first of them
-pub left-torn : (cut at : ℕ) (r : Request) (rs : List Request) → at < cut → cut < at + (13 + length (encoded r)) → readUpTo cut (writtenFrom at (r ∷ rs)) ≡ noEntry 1
+pub left-torn : (cut at : ℕ) (r : Request) (rs : List Request) → at < cut → cut < at + (13 + length (encoded r)) → readUpTo cut (writtenFrom at (r ∷ rs)) ≡ readAs [] 1
 unfolding readUpTo keptBy tornBy writtenFrom
 left-torn cut at r rs h k =
     let n = 13 + length (encoded r) in

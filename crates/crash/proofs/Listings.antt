@@ -11,16 +11,12 @@ use Rattle.directory.specs.Image.{segmentBytes}
 use Rattle.directory.specs.Record.{endOf}
 use Rattle.scan.specs.Read.{readSegment}
 use Rattle.recovery.specs.Log.{LogRead, readLog}
-use Rattle.crash.specs.Request.{Written}
-use Rattle.crash.specs.Kept.{listedAs, listedAll}
+use Rattle.crash.specs.Kept.{listedAs}
+use Rattle.crash.specs.Crash.{readAs}
 use Rattle.crash.proofs.Segments.{Segment, placeOf, leftIn, tornIn, leftOf, tornOf, Stands}
 use Rattle.crash.proofs.Lefts.{readUpTo}
 use Rattle.crash.proofs.CutSegments.{placedAt, segment-left}
 use Rattle.crash.proofs.Holdings.{Kept, kept-there}
-
--- these entries, so many partial writes, and no checksum failure
-abbrev pub readAs : List Written → (partial : ℕ) → LogRead
-readAs ws partial = record { entries = listedAll ws; partial = partial; checksum = 0 }
 
 -- one reading in front of another
 abbrev both : LogRead → LogRead → LogRead

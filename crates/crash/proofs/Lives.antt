@@ -2,7 +2,7 @@
 -- Assumes nothing.
 use Prim.Native.Nat.{ℕ}
 use mathlib.Core.Path.{_≡_, refl, sym, ap, _∙_}
-use mathlib.Core.List.{List, [], _∷_, _++_, map}
+use mathlib.Core.List.{List, [], _∷_, map}
 use mathlib.Core.Option.{some}
 use Rattle.directory.specs.Record.{recordsOf}
 use Rattle.crash.specs.Request.{Request}
@@ -41,12 +41,7 @@ begun-consists bound area directory steps after e =
     } in
     lives-consists (opens bound ∷ steps) start after ([], c) e
 
--- ---- one step more, and one run
-
-pub lives-more : (steps : List Step) (step : Step) (before middle after : Life) → Lives steps before middle → Leads step middle after → Lives (steps ++ (step ∷ [])) before after
-lives-more [] step before middle after e f = (after, (rw (← e) at f, refl))
-lives-more (s ∷ steps) step before middle after e f =
-    (e .0, (e .1 .0, lives-more steps step (e .0) middle after (e .1 .1) f))
+-- ---- one run
 
 -- appends tear nothing
 appends-torn : (rs : List Request) (before after : Life) → Lives (map appends rs) before after → after .torn ≡ before .torn

@@ -12,6 +12,7 @@ use Rattle.directory.specs.Lent.{fitsOf}
 use Rattle.directory.specs.declared.lent.Lent.the-variants as Lends
 use Rattle.lists.specs.Entries.{entryRecordBytes}
 use Rattle.lists.specs.Transactions.{transactionBytes, transactionsOf}
+use Rattle.recovery.specs.Log.{LogRead}
 use Rattle.recovery.specs.Payload.{payloadIn}
 use Rattle.recovery.specs.Recover.{recoveredOf, Recovering, recoverOf}
 use Rattle.recovery.specs.declared.Recovered.{Recovered}
@@ -60,6 +61,10 @@ abbrev pub Ascending : List ℕ → Type 0
 Ascending [] = Unit {0}
 Ascending (n ∷ ns) = All (λ (m : ℕ). n < m) ns × Ascending ns
 
+-- what is read of such a log
+abbrev pub readAs : List Written → (partial : ℕ) → LogRead
+readAs ws partial = record { entries = listedAll ws; partial = partial; checksum = 0 }
+
 pub record Follows (h : Held) (kept : List Written) (partial : ℕ) (lent : Lent) : Type 0 where
   -- "recovery returns exactly the entries": it is accepted, both lists byte for byte are theirs, and so is what stands at each
   -- listed place
@@ -78,7 +83,7 @@ pub record Follows (h : Held) (kept : List Written) (partial : ℕ) (lent : Lent
   -- and so many partial writes
   pub partials : values .stats .«partial_writes» ≡ partial
   -- the other numbers are those of a log that reads so
-  pub others : values ≡ recoveredOf (record { entries = listedAll kept; partial = partial; checksum = 0 })
+  pub others : values ≡ recoveredOf (readAs kept partial)
   -- "by ascending number, the transactions whose last kept marker is a commit"
   pub order : List ℕ
   pub committed : (number : ℕ) → List·Memᴰ number order ↔ (isCommitted number kept ≡ true)

@@ -38,8 +38,8 @@ use Rattle.crash.specs.Request.{Request, encoded, Written}
 use Rattle.crash.specs.Kept.{keptBy, isInside, listedAs, listedAll}
 use Rattle.crash.specs.Life.{Life, empty, opening, appending, Cut, IsCut, Step, opens, appends}
 use Rattle.crash.specs.Settings.{settle, runNumber, runNumbers, isCommitted, hasMarker, keysOf, numberOf}
-use Rattle.crash.specs.Crash.{Enough, Story, Given, cutOf}
-use Rattle.crash.specs.Words.{inserts, updates, deletes, commits, aborts, at, readAs, numbers}
+use Rattle.crash.specs.Crash.{Enough, readAs, Story, Given, cutOf}
+use Rattle.crash.specs.Words.{inserts, updates, deletes, commits, aborts, at, numbers}
 use Rattle.crash.specs.Runs.{areBytes, isTyped, after, afterAll, accepts, acceptsAll, isOne, areAmong, sameList, same-list, are-among, run-lives, same-front}
 
 -- the keys a, b and c

@@ -46,8 +46,8 @@ use Rattle.crash.specs.Request.{encoded}
 use Rattle.crash.specs.Kept.{keptBy, tornBy, stillTorn, listedAs, listedAll}
 use Rattle.crash.specs.Life.{Life, empty, opening, rotating, appending, Cut, cutPlace, IsCut, cutBy, Step, opens, rotates, appends, power-cut, Lives}
 use Rattle.crash.specs.Settings.{settle, runNumber, runNumbers, keysOf, numberOf}
-use Rattle.crash.specs.Crash.{Lent, Enough, recovering, History, Lived}
-use Rattle.crash.specs.Words.{inserts, commits, at, readAs, numbers}
+use Rattle.crash.specs.Crash.{Lent, Enough, recovering, readAs, History, Lived}
+use Rattle.crash.specs.Words.{inserts, commits, at, numbers}
 use Rattle.crash.specs.Runs.{areBytes, isTyped, accepts, acceptsAll, after, afterAll, isOne, areAmong, sameList, same-list, are-among, run-lives, same-front, lives-then}
 
 -- the keys a and b

@@ -1,15 +1,12 @@
--- Short words for the worked instances: entries that are asked for, a directory record's bytes, and what recovery reads and
--- answers.
+-- Short words for the worked instances: entries that are asked for, a directory record's bytes, and what recovery answers.
 -- Assumes nothing.
 use Prim.Native.Nat.{ℕ, _+_}
 use mathlib.Core.List.{List, [], _∷_}
 use Rattle.refusal.specs.Answer.{Answer, accepted}
 use Rattle.directory.specs.Record.{recordBytes}
-use Rattle.recovery.specs.Log.{LogRead}
 use Rattle.recovery.specs.declared.Next.{Next}
 use Rattle.recovery.specs.declared.Recovered.{Recovered}
-use Rattle.crash.specs.Request.{Request, Written}
-use Rattle.crash.specs.Kept.{listedAll}
+use Rattle.crash.specs.Request.{Request}
 
 -- an entry's log number, kind and transaction, its key and its values; it is asked for at the time 1,000 and its log number
 abbrev asks : (lsn kind tx : ℕ) → (key old new : List ℕ) → Request
@@ -34,10 +31,6 @@ aborts lsn tx = asks lsn 4 tx [] [] []
 -- a directory record's bytes
 abbrev pub at : (id start length : ℕ) → List ℕ
 at id start length = recordBytes (record { id = id; start = start; length = length })
-
--- what the theorems say is read of a log with these entries and so many partial writes
-abbrev pub readAs : List Written → (partial : ℕ) → LogRead
-readAs ws partial = record { entries = listedAll ws; partial = partial; checksum = 0 }
 
 -- the seven numbers that recovery answers, and the next transaction's
 abbrev pub numbers : (entries total committed aborted incomplete partial checksum : ℕ) → Next → Answer Recovered
