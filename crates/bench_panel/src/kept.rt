@@ -97,7 +97,7 @@ fn log_line(log: Log, line: Line, bytes: &[u8]) -> Log {
 }
 
 // How many bytes of a buffer are asked for. More than it has is bad, and stands for none.
-#[derive(Drop)]
+#[derive(Clone, Copy)]
 struct Size {
     count: usize,
     is_bad: bool,

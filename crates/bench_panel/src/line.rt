@@ -52,7 +52,7 @@ pub(crate) const CHECKPOINT: u64 = 20;
 
 pub(crate) const LISTS: u64 = 21;
 
-#[derive(Drop)]
+#[derive(Clone, Copy)]
 pub(crate) struct Line {
     // K, which counts all lines from 1.
     pub(crate) k: u64,
@@ -62,7 +62,7 @@ pub(crate) struct Line {
 }
 
 // A row of the table: its number, and where it stands.
-#[derive(Drop)]
+#[derive(Clone, Copy)]
 struct Row {
     number: u64,
     at: usize,

@@ -3,6 +3,8 @@
 // The calls are handed the lent parts of the buffers, and `lists` tells of those; every other line works on the buffers
 // as a whole, whatever is lent. A word has at least one byte, so two spaces together, or one at a line's end, make a bad
 // line.
+#![tactic(auto)]
+
 mod buffers;
 mod calls;
 mod hex;

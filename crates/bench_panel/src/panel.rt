@@ -5,14 +5,14 @@ use crate::buffers;
 use segment::SegmentManager;
 
 // What the calls are handed and change: the writer's state and the used count.
-#[derive(Drop)]
+#[derive(Clone, Copy)]
 pub(crate) struct Log {
     pub(crate) manager: SegmentManager,
     pub(crate) used: usize,
 }
 
 // How many bytes of each buffer are lent, from its first.
-#[derive(Drop)]
+#[derive(Clone, Copy)]
 pub(crate) struct Lent {
     pub(crate) area: usize,
     pub(crate) directory: usize,
@@ -21,7 +21,7 @@ pub(crate) struct Lent {
     pub(crate) table: usize,
 }
 
-#[derive(Drop)]
+#[derive(Clone, Copy)]
 pub(crate) struct Panel {
     pub(crate) log: Log,
     pub(crate) lent: Lent,

@@ -1,5 +1,7 @@
 // What the programs share: a text cut at a byte, and lines on standard output. No contract can say what is written,
 // so the functions that print promise only that they end.
+#![tactic(auto)]
+
 ghost use Rattle.std.specs.Prelude.{◌≡◌, ◌<◌, ◌≤◌, length};
 ghost use Rattle.io.specs.Counts.{IsPrefixLen};
 ghost use Rattle.console.specs.Cut.{before_of, cut_of};
@@ -12,7 +14,7 @@ mod report;
 pub use report::print_report;
 
 // How many bytes stand before the cut, and how many are passed with the byte that is cut at.
-#[derive(Drop)]
+#[derive(Clone, Copy)]
 pub struct Cut {
     pub before: usize,
     pub passed: usize,

@@ -1,4 +1,6 @@
 // CRC-32 of ITU-T V.42, a byte at a time by a table.
+#![tactic(auto)]
+
 mod tables;
 
 ghost use Rattle.std.specs.Prelude.{◌≡◌};

@@ -9,7 +9,7 @@
 ghost use Rattle.std.specs.Prelude.{◌≡◌, ◌%◌};
 ghost use Rattle.crc32.specs.Crc.{bit_steps};
 
-#[derive(Drop)]
+#[derive(Clone, Copy)]
 struct Index {
     key: u32,
 }

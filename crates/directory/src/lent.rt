@@ -2,7 +2,7 @@
 ghost use Rattle.std.specs.Prelude.{◌≡◌};
 ghost use Rattle.directory.specs.Lent.{size_of, most_of, fits_of};
 
-#[derive(Drop)]
+#[derive(Clone, Copy)]
 pub enum Lent {
     Area,
     Directory,

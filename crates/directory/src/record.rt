@@ -3,7 +3,7 @@ ghost use Rattle.std.specs.Prelude.{◌≡◌, ◌*◌, drop};
 ghost use Rattle.std.proofs.lemmas.List.Edits.{sets};
 ghost use Rattle.directory.specs.Record.{record_at, record_bytes};
 
-#[derive(Drop)]
+#[derive(Clone, Copy)]
 pub struct SegmentRecord {
     pub id: u64,
     pub start: u64,

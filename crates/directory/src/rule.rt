@@ -7,13 +7,13 @@ use crate::record::SegmentRecord;
 use refusal::Refusal;
 
 // What a record comes after: no segment, or the id and the end of the one before it.
-#[derive(Drop)]
+#[derive(Clone, Copy)]
 pub enum Last {
     NoSegment,
     Segment { id: u64, end: u64 },
 }
 
-#[derive(Drop)]
+#[derive(Clone, Copy)]
 pub enum Tested {
     Refused(Refusal),
     Sound,

@@ -9,19 +9,19 @@ use payload::kind::{ABORT, COMMIT, DELETE, INSERT, UPDATE};
 use payload::{FIXED, LENGTH};
 
 // A refusal is unnumbered. `used` is how many bytes the entry took: bytes left over are allowed.
-#[derive(Drop)]
+#[derive(Clone, Copy)]
 pub enum Decoded {
     Refused,
     Entry { entry: WalEntry, used: usize },
 }
 
-#[derive(Drop)]
+#[derive(Clone, Copy)]
 pub(crate) enum Part {
     Fails,
     At(Place),
 }
 
-#[derive(Drop)]
+#[derive(Clone, Copy)]
 pub(crate) enum Pair {
     Lacks,
     Has { key: Place, part: Place },

@@ -1,4 +1,6 @@
 // The entry format. The header and the writing of a payload have crates of their own and are handed on here.
+#![tactic(auto)]
+
 ghost use Rattle.std.specs.Prelude.{◌≡◌};
 ghost use Rattle.entry.specs.Parts.{tx_of, time_of, kind_of, is_commit, is_abort};
 
@@ -11,13 +13,13 @@ pub use header::WalEntryHeader;
 pub use payload::{Encoded, encode, well_formed};
 
 // A stretch of bytes: of a key or a value in its payload, of a payload in its segment.
-#[derive(Drop)]
+#[derive(Clone, Copy)]
 pub struct Place {
     pub start: usize,
     pub len: usize,
 }
 
-#[derive(Drop)]
+#[derive(Clone, Copy)]
 pub enum WalEntry {
     Insert {
         tx_id: u64,

@@ -9,7 +9,7 @@ const INSERT: u64 = 0;
 
 const COMMIT: u64 = 3;
 
-#[derive(Drop)]
+#[derive(Clone, Copy)]
 pub struct Logger {
     pub manager: SegmentManager,
     pub used: usize,

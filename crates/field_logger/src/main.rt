@@ -3,6 +3,8 @@
 //
 // The last line may lack its line feed. An empty line has no space, so it is a bad one. Key and value may be empty:
 // a line that begins with its only space logs an empty key. If a commit is refused, its insert stays logged.
+#![tactic(auto)]
+
 mod buffers;
 mod logger;
 

@@ -1,8 +1,10 @@
 // "A header is 13 bytes: payload length (8), CRC-32 of the payload (4), version 1."
+#![tactic(auto)]
+
 ghost use Rattle.std.specs.Prelude.{◌≡◌};
 ghost use Rattle.header.specs.Header.{header_of, header_bytes, header_at, valid_for};
 
-#[derive(Drop)]
+#[derive(Clone, Copy)]
 pub struct WalEntryHeader {
     // Of the payload, without the header.
     pub length: u64,

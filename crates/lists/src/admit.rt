@@ -9,7 +9,7 @@ use crate::transactions::{RecoveryAction, TransactionRecord};
 use payload::kind::{ABORT, COMMIT};
 use records::Found;
 
-#[derive(Drop)]
+#[derive(Clone, Copy)]
 pub enum Full {
     Room,
     // More distinct numbers than transaction records: entries are still counted, since 6 goes before 7.
@@ -19,7 +19,7 @@ pub enum Full {
 }
 
 // How far the two lists are filled.
-#[derive(Drop)]
+#[derive(Clone, Copy)]
 pub struct Lists {
     pub entries: usize,
     pub transactions: usize,
@@ -28,7 +28,7 @@ pub struct Lists {
 }
 
 // How far the transactions are filled.
-#[derive(Drop)]
+#[derive(Clone, Copy)]
 struct Extent {
     count: usize,
     full: Full,

@@ -3,7 +3,7 @@ ghost use Rattle.std.specs.Prelude.{◌≡◌, ◌*◌, drop};
 ghost use Rattle.std.proofs.lemmas.List.Edits.{sets};
 ghost use Rattle.lists.specs.Entries.{entry_record_at, entry_record_bytes};
 
-#[derive(Drop)]
+#[derive(Clone, Copy)]
 pub struct EntryRecord {
     pub tx_id: u64,
     // Of the payload's first byte, in the area.

@@ -9,7 +9,7 @@ ghost use Rattle.lists.specs.Tally.{tallied, tally_of, total_of, highest_committ
 use crate::transactions::{RecoveryAction, TransactionRecord};
 
 // How many transactions are committed, aborted and incomplete.
-#[derive(Drop)]
+#[derive(Clone, Copy)]
 pub struct Tally {
     pub committed: usize,
     pub aborted: usize,

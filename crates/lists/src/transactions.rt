@@ -7,7 +7,7 @@ ghost use Rattle.lists.specs.Admit.{order_in};
 
 use records::Found;
 
-#[derive(Drop)]
+#[derive(Clone, Copy)]
 pub enum RecoveryAction {
     Incomplete,
     Commit,
@@ -37,7 +37,7 @@ impl RecoveryAction {
     }
 }
 
-#[derive(Drop)]
+#[derive(Clone, Copy)]
 pub struct TransactionRecord {
     pub tx_id: u64,
     pub action: RecoveryAction,

@@ -5,7 +5,7 @@ ghost use Rattle.names.specs.Decimal.{digits_of, padded, low_digits, number_afte
 
 const MOST: u64 = 0xffff_ffff_ffff_ffff;
 
-#[derive(Drop)]
+#[derive(Clone, Copy)]
 pub(crate) enum Number {
     NoNumber,
     Value(u64),

@@ -1,4 +1,6 @@
 // The names of segment files, written and read.
+#![tactic(auto)]
+
 ghost use Rattle.std.specs.Prelude.{◌≡◌};
 ghost use Rattle.fields.specs.Order.{same_bytes};
 ghost use Rattle.names.specs.Name.{name_of, naming, name_into, is_framed, without_plus, read_of};
@@ -15,14 +17,14 @@ const SUFFIX: [u8; 4] = *b".log";
 // The longest name: its id has 20 digits.
 const NAME_MOST: usize = PREFIX.len() + 20 + SUFFIX.len();
 
-#[derive(Drop)]
+#[derive(Clone, Copy)]
 pub enum Named {
     Refused(Refusal),
     // The name's length.
     Written(usize),
 }
 
-#[derive(Drop)]
+#[derive(Clone, Copy)]
 pub enum Parsed {
     NoName,
     // `kept`: writing the id gives the same name back. No other name is kept, or one file would be read twice.

@@ -1,4 +1,6 @@
 // A payload is written as bincode 1.x writes `ByteWalEntry`.
+#![tactic(auto)]
+
 ghost use Rattle.std.specs.Prelude.{◌≡◌, ◌+◌, ◌≤◌, ◌++◌, length};
 ghost use Rattle.std.proofs.lemmas.List.Edits.{sets};
 ghost use Rattle.payload.specs.Content.{part_bytes, fixed_bytes, key_fits};
@@ -22,7 +24,7 @@ pub const LENGTH: usize = 8;
 // The longest payload of a well_formed_lem entry: an update's.
 pub const PAYLOAD_MOST: usize = FIXED + 3 * LENGTH + KEY_MOST + 2 * VALUE_MOST;
 
-#[derive(Drop)]
+#[derive(Clone, Copy)]
 pub enum Encoded {
     // How many bytes were written at the target's front.
     Written(usize),

@@ -1,4 +1,6 @@
 // What a call that writes will do: it is refused, or it writes this record and, of an append, at this place.
+#![tactic(auto)]
+
 ghost use Rattle.std.specs.Prelude.{◌≡◌, ◌<◌, ◌≤◌, false};
 ghost use Rattle.refusal.specs.Answer.{sound};
 ghost use Rattle.directory.specs.Record.{end_of};
@@ -13,14 +15,14 @@ use refusal::Refusal;
 // A header's bytes, as a number of the directory.
 const HEADER: u64 = WalEntryHeader::SIZE as u64;
 
-#[derive(Drop)]
+#[derive(Clone, Copy)]
 pub enum NewSegment {
     Refused(Refusal),
     Record(SegmentRecord),
 }
 
 // Record `k` becomes `segment`, and the entry goes to `at`.
-#[derive(Drop)]
+#[derive(Clone, Copy)]
 pub struct Write {
     pub at: usize,
     pub k: usize,
@@ -28,7 +30,7 @@ pub struct Write {
     pub rotated: bool,
 }
 
-#[derive(Drop)]
+#[derive(Clone, Copy)]
 pub enum Plan {
     Refused(Refusal),
     Write(Write),

@@ -8,7 +8,7 @@ use refusal::Refusal;
 // Of a checkpoint's image.
 const SIZE: usize = 8;
 
-#[derive(Drop)]
+#[derive(Clone, Copy)]
 pub enum Checkpointed {
     Refused(Refusal),
     At(u64),

@@ -1,4 +1,6 @@
 // Recovery: what a log says after a power cut, from any bytes whatever.
+#![tactic(auto)]
+
 ghost use Rattle.std.specs.Prelude.{◌≡◌, length};
 ghost use Rattle.refusal.specs.Number.{number_of};
 ghost use Rattle.refusal.specs.Answer.{sound};
@@ -22,14 +24,14 @@ mod read;
 pub use checkpoints::{Checkpointed, checkpoint, read_checkpoint};
 
 // What the controller's transaction counter becomes.
-#[derive(Drop)]
+#[derive(Clone, Copy)]
 pub enum Next {
     Unchanged,
     Number(u64),
     Exhausted,
 }
 
-#[derive(Drop)]
+#[derive(Clone, Copy)]
 pub struct RecoveryStats {
     pub total_transactions: usize,
     pub committed: usize,
@@ -39,7 +41,7 @@ pub struct RecoveryStats {
     pub checksum_failures: usize,
 }
 
-#[derive(Drop)]
+#[derive(Clone, Copy)]
 pub struct Recovered {
     pub stats: RecoveryStats,
     // How many records of the entry list are used.
@@ -47,7 +49,7 @@ pub struct Recovered {
     pub next: Next,
 }
 
-#[derive(Drop)]
+#[derive(Clone, Copy)]
 pub enum Recovery {
     Refused(Refusal),
     Done(Recovered),

@@ -16,7 +16,7 @@ use lists::entries::EntryRecord;
 use scan::Step;
 
 // How far recovery has come.
-#[derive(Drop)]
+#[derive(Clone, Copy)]
 pub(crate) struct Progress {
     pub(crate) lists: Lists,
     pub(crate) partial_writes: usize,

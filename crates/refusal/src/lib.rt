@@ -1,9 +1,11 @@
 // Document 01's refusals. All calls share this enum. The calls' promises state a refusal by its number; the test of the
 // directory, which they share, hands the refusal itself on.
+#![tactic(auto)]
+
 ghost use Rattle.std.specs.Prelude.{◌≡◌};
 ghost use Rattle.refusal.specs.Number.{number_of};
 
-#[derive(Drop)]
+#[derive(Clone, Copy)]
 pub enum Refusal {
     // A buffer is over its most, or not whole records, or a target is too short.
     InvalidBuffer,

@@ -1,4 +1,6 @@
 // Document 01's program: a segment comes in, and seven lines tell what its recovery finds.
+#![tactic(auto)]
+
 mod one_segment;
 
 use libc::STDIN_FILENO;

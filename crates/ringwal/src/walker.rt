@@ -6,14 +6,14 @@ ghost use Rattle.ringwal.specs.Walker.{offset_after, walked_at, stepped};
 
 use scan::Step;
 
-#[derive(Drop)]
+#[derive(Clone, Copy)]
 pub struct SegmentWalker<'a> {
     pub segment: &'a [u8],
     pub at: usize,
 }
 
 // What stood at the offset, and where the next step is.
-#[derive(Drop)]
+#[derive(Clone, Copy)]
 pub struct Walked {
     pub step: Step,
     pub at: usize,

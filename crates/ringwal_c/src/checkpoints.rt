@@ -8,14 +8,14 @@ use recovery::Checkpointed;
 use truncation::Truncated;
 
 #[repr(C)]
-#[derive(Drop)]
+#[derive(Clone, Copy)]
 pub struct CheckpointAnswer {
     pub refusal: u64,
     pub number: u64,
 }
 
 #[repr(C)]
-#[derive(Drop)]
+#[derive(Clone, Copy)]
 pub struct TruncateAnswer {
     pub refusal: u64,
     // How many segments were dropped.

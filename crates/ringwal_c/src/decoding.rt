@@ -7,7 +7,7 @@ use entry::{Decoded, Place, WalEntry};
 
 // Where a key or a value stands in its payload.
 #[repr(C)]
-#[derive(Drop)]
+#[derive(Clone, Copy)]
 pub struct Span {
     pub start: usize,
     pub len: usize,
@@ -23,7 +23,7 @@ const NO_PARTS: Parts = Parts {
 
 // A part that the kind does not have is empty, at 0. An insert's value is `new_value`, a delete's `old_value`.
 #[repr(C)]
-#[derive(Drop)]
+#[derive(Clone, Copy)]
 pub struct Parts {
     pub key: Span,
     pub old_value: Span,
@@ -32,7 +32,7 @@ pub struct Parts {
 
 // `is_entry` is 0 where the payload is refused, and all else is then 0.
 #[repr(C)]
-#[derive(Drop)]
+#[derive(Clone, Copy)]
 pub struct DecodeAnswer {
     pub is_entry: u64,
     pub kind: u64,

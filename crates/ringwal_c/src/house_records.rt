@@ -12,7 +12,7 @@ use directory::record::SegmentRecord;
 use records::Found;
 
 #[repr(C)]
-#[derive(Drop)]
+#[derive(Clone, Copy)]
 pub struct Segment {
     pub id: u64,
     pub start: u64,
@@ -20,7 +20,7 @@ pub struct Segment {
 }
 
 #[repr(C)]
-#[derive(Drop)]
+#[derive(Clone, Copy)]
 pub struct Entry {
     pub tx_id: u64,
     // Of the payload's first byte, in the area.
@@ -30,7 +30,7 @@ pub struct Entry {
 }
 
 #[repr(C)]
-#[derive(Drop)]
+#[derive(Clone, Copy)]
 pub struct Transaction {
     pub tx_id: u64,
     pub action: u64,
@@ -39,7 +39,7 @@ pub struct Transaction {
 }
 
 #[repr(C)]
-#[derive(Drop)]
+#[derive(Clone, Copy)]
 pub struct Row {
     pub mark: u64,
     pub key_len: usize,
@@ -48,7 +48,7 @@ pub struct Row {
 
 // `is_found` is 0 where the key has no record: `place` is then that of its gap.
 #[repr(C)]
-#[derive(Drop)]
+#[derive(Clone, Copy)]
 pub struct FindAnswer {
     pub is_found: u64,
     pub place: usize,

@@ -7,7 +7,7 @@ ghost use Rattle.ringwal_c.specs.Writing.{manager_of, append_for, written, in_pl
 use crate::writing::Writer;
 
 #[repr(C)]
-#[derive(Drop)]
+#[derive(Clone, Copy)]
 pub struct WriteAnswer {
     pub refusal: u64,
     // The bytes written, header included.

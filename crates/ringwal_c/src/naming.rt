@@ -6,7 +6,7 @@ ghost use Rattle.ringwal_c.specs.Naming.{name_answer, named, name_for, parse_ans
 use names::{Named, Parsed};
 
 #[repr(C)]
-#[derive(Drop)]
+#[derive(Clone, Copy)]
 pub struct NameAnswer {
     pub refusal: u64,
     // The name's length.
@@ -15,7 +15,7 @@ pub struct NameAnswer {
 
 // `is_name` is 0 where there is no name. `kept` is 1 where writing the id gives the same name back.
 #[repr(C)]
-#[derive(Drop)]
+#[derive(Clone, Copy)]
 pub struct ParseAnswer {
     pub is_name: u64,
     pub id: u64,

@@ -8,7 +8,7 @@ use recovery::{Next, Recovery};
 
 // `next` is 0 where the next number is unchanged, 1 where it is `next_number`, 2 where it is exhausted.
 #[repr(C)]
-#[derive(Drop)]
+#[derive(Clone, Copy)]
 pub struct RecoverAnswer {
     pub refusal: u64,
     pub total_transactions: usize,

@@ -7,7 +7,7 @@ ghost use Rattle.ringwal_c.specs.Writing.{writer_of, manager_of, OpensAs, Append
 use segment::{Appended, Appending, Opened, Opening, SegmentManager};
 
 #[repr(C)]
-#[derive(Drop)]
+#[derive(Clone, Copy)]
 pub struct Writer {
     pub max_segment_size: u64,
     pub entry_count: u64,
@@ -16,14 +16,14 @@ pub struct Writer {
 }
 
 #[repr(C)]
-#[derive(Drop)]
+#[derive(Clone, Copy)]
 pub struct OpenAnswer {
     pub refusal: u64,
     pub writer: Writer,
 }
 
 #[repr(C)]
-#[derive(Drop)]
+#[derive(Clone, Copy)]
 pub struct AppendAnswer {
     pub refusal: u64,
     // The bytes written, header included.

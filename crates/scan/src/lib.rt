@@ -1,4 +1,6 @@
 // The scan of a segment, one step at a time: the header and its payload are judged where they stand, nothing is copied.
+#![tactic(auto)]
+
 ghost use Rattle.std.specs.Prelude.{◌≡◌, ◌-◌, ◌≤◌, leb, length};
 ghost use Rattle.entry.specs.Decode.{bytes_at, end_of};
 ghost use Rattle.scan.specs.Step.{judge_of, step_as, step_at};
@@ -6,7 +8,7 @@ ghost use Rattle.scan.specs.Step.{judge_of, step_as, step_at};
 use entry::{Decoded, Place, WalEntry, WalEntryHeader};
 
 // A header with its payload.
-#[derive(Drop)]
+#[derive(Clone, Copy)]
 pub enum Judged {
     WrongChecksum,
     Undecodable,
@@ -15,7 +17,7 @@ pub enum Judged {
 
 // What stands at an offset of a segment. A payload's place is in the segment. Behind an entry the next step is at its end;
 // the truncation scan goes on behind an undecodable payload too.
-#[derive(Drop)]
+#[derive(Clone, Copy)]
 pub enum Step {
     Entry { entry: WalEntry, payload: Place },
     End,

@@ -1,4 +1,6 @@
 // The writer. Its state goes in by value and comes back beside the answer; area and directory are lent.
+#![tactic(auto)]
+
 ghost use Rattle.std.specs.Prelude.{◌≡◌, ◌+◌, ◌<◌, ◌≤◌, length};
 ghost use Rattle.refusal.specs.Number.{number_of};
 ghost use Rattle.refusal.specs.Answer.{by_answer};
@@ -14,7 +16,7 @@ use payload::{Encoded, PAYLOAD_MOST};
 use plan::{NewSegment, Plan, Write};
 use refusal::Refusal;
 
-#[derive(Drop)]
+#[derive(Clone, Copy)]
 pub struct SegmentManager {
     pub max_segment_size: u64,
     // Of the active segment.
@@ -24,26 +26,26 @@ pub struct SegmentManager {
 }
 
 // The used count after the call.
-#[derive(Drop)]
+#[derive(Clone, Copy)]
 pub enum Opened {
     Refused(Refusal),
     Used(usize),
 }
 
-#[derive(Drop)]
+#[derive(Clone, Copy)]
 pub struct Opening {
     pub manager: SegmentManager,
     pub answer: Opened,
 }
 
 // The used count after the call, and the bytes written, header included.
-#[derive(Drop)]
+#[derive(Clone, Copy)]
 pub enum Appended {
     Refused(Refusal),
     Written { used: usize, len: usize },
 }
 
-#[derive(Drop)]
+#[derive(Clone, Copy)]
 pub struct Appending {
     pub manager: SegmentManager,
     pub answer: Appended,

@@ -1,4 +1,6 @@
 // Replay: the table of settings, rebuilt from the committed transactions of a log.
+#![tactic(auto)]
+
 ghost use Rattle.std.specs.Prelude.{◌≡◌, length};
 ghost use Rattle.refusal.specs.Number.{number_of};
 ghost use Rattle.store.specs.Replay.{replaying, refused_empty, table_after, replay_of};

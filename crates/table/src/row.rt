@@ -21,7 +21,7 @@ pub const KEY: usize = 4;
 
 pub const VALUE: usize = 68;
 
-#[derive(Drop)]
+#[derive(Clone, Copy)]
 pub struct RowRecord {
     pub mark: u64,
     pub key_len: usize,

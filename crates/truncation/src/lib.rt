@@ -1,4 +1,6 @@
 // Truncation by checkpoint.
+#![tactic(auto)]
+
 ghost use Rattle.std.specs.Prelude.{◌≡◌, false, cond, ◌≤◌, length};
 ghost use Rattle.refusal.specs.Answer.{sound};
 ghost use Rattle.scan.specs.Highest.{highest_of};
@@ -13,7 +15,7 @@ use refusal::Refusal;
 use scan::Step;
 
 // How many segments were dropped, and the used count after the call.
-#[derive(Drop)]
+#[derive(Clone, Copy)]
 pub enum Truncated {
     Refused(Refusal),
     Dropped { count: usize, used: usize },

@@ -1,11 +1,13 @@
 // Whether bytes are UTF-8, by the grammar of RFC 3629, section 4.
+#![tactic(auto)]
+
 ghost use Rattle.std.specs.Prelude.{◌≡◌, ◌≤◌, length};
 ghost use Rattle.utf8.specs.Grammar.{utf8_char, begun, after, is_utf8};
 ghost use Rattle.utf8.specs.State.{ranges_of, next_of};
 ghost use Rattle.utf8.specs.Ascii.{ascii, ascii_at};
 
 // What is to come of the character that was begun: left octets, the first from low to high, the others tails.
-#[derive(Drop)]
+#[derive(Clone, Copy)]
 struct Awaited {
     left: usize,
     low: u8,
@@ -13,7 +15,7 @@ struct Awaited {
 }
 
 // What an octet leaves.
-#[derive(Drop)]
+#[derive(Clone, Copy)]
 enum Next {
     Refused,
     Awaits(Awaited),

@@ -2,7 +2,7 @@
 use super::tally::Tally;
 
 // What is asked of each line.
-#[derive(Drop)]
+#[derive(Clone, Copy)]
 pub(crate) enum Question {
     IsUtf8,
     IsNotUtf8,

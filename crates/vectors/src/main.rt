@@ -1,5 +1,7 @@
 // Runs published vectors, document 01's readings, and vectors of the libraries that the Rust leans on, against the code.
 // A line for each group says how many held of how many were run.
+#![tactic(auto)]
+
 mod allowed;
 mod checkpoints;
 mod checksums;

@@ -1,5 +1,5 @@
 // How many vectors of a group were run, and how many of them held.
-#[derive(Drop)]
+#[derive(Clone, Copy)]
 pub(crate) struct Tally {
     held: u64,
     run: u64,

@@ -1,0 +1,13 @@
+-- `bench_panel::hex::read` is safe and ends: each turn stores one byte, and the target keeps its length.
+use mathlib.Core.Path.{◌≡◌, refl}
+use Prim.Native.Nat.{◌-◌, ◌≤◌}
+use lib.ListN.{length, length-set}
+use native.Mathlib.Omega.{arith}
+use borrow.Author.Rules.{rules}
+use Rattle.bench_panel.proofs.hex.read.Goals as goal
+
+pub loop-i-init : goal.loop-i-init
+loop-i-init c = (refl, omega arith)
+
+pub loop-i-preserved : goal.loop-i-preserved
+loop-i-preserved c = (simp length-set (omega arith), omega arith)

@@ -1,0 +1,13 @@
+-- `bench_panel::listing::print_rows` is safe and ends: each turn passes a record, and each lies in the table.
+-- Assumes nothing.
+use Prim.Native.Nat.{◌-◌, ◌/◌, ◌≤◌}
+use lib.ListN.{length}
+use native.Mathlib.Omega.{arith}
+use borrow.Author.Rules.{rules}
+use Rattle.bench_panel.proofs.listing.print_rows.Given as goal
+
+abbrev pub invariant-loop-k : goal.invariant-loop-k
+invariant-loop-k l = l.k ≤ length l.table / 320
+
+abbrev pub decreases-loop-k : goal.decreases-loop-k
+decreases-loop-k l = length l.table / 320 - l.k

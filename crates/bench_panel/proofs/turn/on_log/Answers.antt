@@ -1,0 +1,13 @@
+-- `bench_panel::turn::on_log` is safe and ends: the lent parts are no longer than the buffers.
+-- Assumes nothing.
+use mathlib.Core.Path.{sym}
+use lib.Seq.{length-take-le}
+use native.Mathlib.Omega.{arith}
+use borrow.Author.Rules.{rules}
+use Rattle.bench_panel.proofs.turn.on_log.Goals as goal
+
+pub slice_bounds-answer-end-2 : goal.slice_bounds-answer-end-2
+slice_bounds-answer-end-2 c = sym (length-take-le _ _ (omega arith))
+
+pub slice_bounds-answer-end-4 : goal.slice_bounds-answer-end-4
+slice_bounds-answer-end-4 c = sym (length-take-le _ _ (omega arith))

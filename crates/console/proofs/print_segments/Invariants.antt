@@ -1,0 +1,12 @@
+-- `console::print_segments` is safe and ends: each turn passes a record.
+-- Assumes nothing.
+use Prim.Native.Nat.{◌-◌, ◌≤◌}
+use native.Mathlib.Omega.{arith}
+use borrow.Author.Rules.{rules}
+use Rattle.console.proofs.print_segments.Given as goal
+
+abbrev pub invariant-loop-k : goal.invariant-loop-k
+invariant-loop-k l = l.k ≤ l.used
+
+abbrev pub decreases-loop-k : goal.decreases-loop-k
+decreases-loop-k l = l.used - l.k

@@ -1,0 +1,21 @@
+-- `directory::rule::keeps_rule` meets its contract. The invariant: the records that are left keep the rule, after the
+-- last one tested, exactly if the directory keeps it.
+-- Assumes nothing.
+use mathlib.Core.Path.{◌≡◌, sym, ap, ◌∙◌}
+use mathlib.Core.Bool.{true, false}
+use Prim.Native.Nat.{◌-◌, ◌*◌, ◌≤◌}
+use lib.ListN.{drop}
+use borrow.Author.Tests.{not-true, not-false, le-leb, lt-leb}
+use Rattle.directory.specs.Record.{record_at, records_of}
+use Rattle.directory.specs.Rule.{follows_of, rule_from, directory_rule}
+use Rattle.directory.proofs.Rules.{follows_says, rule_turn, rule_stop}
+use native.Mathlib.Omega.{arith}
+use borrow.Author.Rules.{rules}
+use Rattle.directory.proofs.rule.keeps_rule.Given as goal
+
+abbrev pub invariant-loop-k : goal.invariant-loop-k
+invariant-loop-k l =
+    (l.k ≤ l.used) × (rule_from l.area l.last (records_of (l.used - l.k) (drop (24 * l.k) l.directory)) ≡ directory_rule l.area l.directory l.used)
+
+abbrev pub decreases-loop-k : goal.decreases-loop-k
+decreases-loop-k l = l.used - l.k

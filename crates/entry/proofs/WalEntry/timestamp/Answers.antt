@@ -1,0 +1,15 @@
+-- `WalEntry::timestamp` meets its contract: each arm says which variant it is.
+-- Assumes nothing.
+use mathlib.Core.Path.{sym, ap}
+use Rattle.entry.specs.Parts.{time_of}
+use borrow.Author.Rules.{rules}
+use Rattle.entry.proofs.WalEntry.timestamp.Goals as goal
+
+pub returns-in-Insert : goal.returns-in-Insert
+returns-in-Insert c = ap time_of (sym c.in-Insert.is)
+
+pub returns-in-Update : goal.returns-in-Update
+returns-in-Update c = ap time_of (sym c.in-Update.is)
+
+pub returns-in-Delete : goal.returns-in-Delete
+returns-in-Delete c = ap time_of (sym c.in-Delete.is)

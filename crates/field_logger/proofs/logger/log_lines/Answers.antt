@@ -1,0 +1,20 @@
+-- `field_logger::logger::log_lines` is safe and ends. The invariant: a line passes a byte at least, and logs two entries at most,
+use mathlib.Core.Path.{◌≡◌, refl}
+use Prim.Native.Nat.{◌*◌, ◌-◌, ◌≤◌}
+use lib.ListN.{length}
+use native.Mathlib.Omega.{arith}
+use borrow.Author.Rules.{rules}
+use Rattle.field_logger.proofs.logger.log_lines.Goals as goal
+
+pub loop-at-init : goal.loop-at-init
+loop-at-init c = (refl, refl, omega arith, omega arith, omega arith)
+
+pub loop-at-smaller : goal.loop-at-smaller
+loop-at-smaller c =
+    let passes = c.cut_at-cut.ensures.1.1.1 (omega arith) in
+    omega arith
+
+pub loop-at-preserved : goal.loop-at-preserved
+loop-at-preserved c =
+    let passes = c.cut_at-cut.ensures.1.1.1 (omega arith) in
+    (search rules, search rules, omega arith, omega arith, omega arith)

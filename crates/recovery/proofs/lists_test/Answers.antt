@@ -1,0 +1,24 @@
+-- `lists_test` meets its contract: the lists are tested before the directory.
+-- Assumes nothing.
+use borrow.Author.Tests.{not-true, not-false}
+use Rattle.recovery.specs.Recover.{lists_test_of}
+use borrow.Author.Rules.{rules}
+use Rattle.recovery.proofs.lists_test.Goals as goal
+
+pub returns-then-not-fits : goal.returns-then-not-fits
+unfolding lists_test_of
+returns-then-not-fits c = let f = c.fits in rw (← f.ensures, not-true f.result c.if-not-fits.true)
+
+pub returns-then-not-fits-2 : goal.returns-then-not-fits-2
+unfolding lists_test_of
+returns-then-not-fits-2 c =
+    let f = c.fits-2 in
+    let g = c.fits in
+    rw (← f.ensures, not-false f.result c.if-not-fits.false, ← g.ensures, not-true g.result c.if-not-fits-2.true)
+
+pub returns : goal.returns
+unfolding lists_test_of
+returns c =
+    let f = c.fits-2 in
+    let g = c.fits in
+    rw (← f.ensures, not-false f.result c.if-not-fits.false, ← g.ensures, not-false g.result c.if-not-fits-2.false) c.test.ensures

@@ -1,0 +1,51 @@
+-- `read_log` meets its contract. The invariant: what is left of the log, read into the lists as they stand, comes to the whole
+use mathlib.Core.Path.{refl}
+use Prim.Native.Nat.{◌+◌, ◌-◌, ◌<◌, ◌≤◌}
+use native.Mathlib.Omega.{arith}
+use lib.ListN.{length, drop, length-take}
+use Rattle.directory.specs.Record.{end_of}
+use Rattle.directory.proofs.Sound.{sound_ends, sound_says}
+use Rattle.recovery.specs.Reach.{reached, unread}
+use Rattle.recovery.proofs.Reaches.{ReadingOn, reading_starts, reading_part, reading_ends}
+use borrow.Author.Rules.{rules}
+use Rattle.recovery.proofs.read.read_log.Goals as goal
+
+pub loop-k-init : goal.loop-k-init
+loop-k-init c = (reading_starts _ _ _ _ refl refl, omega arith)
+
+-- the segment ends in the area
+ends-in : (c : goal.After-record_at-segment → end_of c.record-at.result ≤ length c.before.before.before.before.before.before.before.args.area.now
+ends-in c =
+    let h : c.loop-k.k < c.args.used = omega arith in
+    rw c.record_at-segment.ensures (sound_ends _ _ _ c.requires c.loop-k.k h)
+
+area-most : (c : goal.After-record_at-segment → length c.before.before.before.before.before.before.before.args.area.now ≤ 1_073_741_824
+area-most c = (sound_says _ _ _ c.requires).area
+
+pub overflow_add-end : goal.overflow_add-end
+overflow_add-end c = omega (arith, ends-in c, area-most c)
+
+pub slice_bounds-read_segment_entries-end : goal.slice_bounds-read_segment_entries-end
+slice_bounds-read_segment_entries-end c = omega (arith, ends-in c)
+
+pub read_segment_entries-progress-requires : goal.read_segment_entries-progress-requires
+read_segment_entries-progress-requires c =
+    let r = c.record_at-segment.result in
+    let s = sound_says _ _ _ c.requires in
+    let i = c.loop-k.invariant.0 in
+    (omega (arith, ends-in c, area-most c, length-take (r.start + r.length - r.start) (drop r.start c.args.area.now)), omega (arith, i.partial, s.used, s.directory), omega (arith, i.checksum, s.used, s.directory))
+
+pub loop-k-preserved : goal.loop-k-preserved
+loop-k-preserved c =
+    let i = c.loop-k.invariant in
+    let r = c.record_at-segment in
+    (reading_part _ _ _ _ _ _ (omega arith) r.result r.ensures i.0 _ c.read_segment_entries-progress.ensures, omega arith)
+
+pub shape_of-entries : goal.shape_of-entries
+shape_of-entries c = c.loop-k.invariant.0.entries
+
+pub shape_of-transactions : goal.shape_of-transactions
+shape_of-transactions c = c.loop-k.invariant.0.transactions
+
+pub returns : goal.returns
+returns c = reading_ends _ _ _ _ _ _ (omega arith) c.loop-k.invariant.0

@@ -1,0 +1,53 @@
+-- `read_segment_entries` meets its contract. The invariant: what is left of the segment, read into the lists as they stand,
+use mathlib.Core.Path.{◌≡◌, refl, sym, ◌∙◌}
+use Prim.Native.Nat.{◌-◌}
+use native.Mathlib.Omega.{arith}
+use lib.ListN.{length}
+use Rattle.scan.specs.Step.{step_at}
+use Rattle.scan.specs.Read.{read_segment}
+use Rattle.scan.specs.declared.Step.TheVariants.{Entry}
+use Rattle.scan.proofs.Steps.{EntryAt, step_entry}
+use Rattle.recovery.specs.Reach.{reached}
+use Rattle.recovery.proofs.Reaches.{Going, with_lists, reach_ended, going_on}
+use Rattle.recovery.proofs.Ends.{not_entry}
+use borrow.Author.Rules.{rules}
+use Rattle.recovery.proofs.read.read_segment_entries.Goals as goal
+
+pub loop-entry-init : goal.loop-entry-init
+loop-entry-init c = record { same = refl; entries = refl; transactions = refl }
+
+pub shape_of-entries-in_default : goal.shape_of-entries-in_default
+shape_of-entries-in_default c = c.loop-entry.invariant.entries
+
+pub shape_of-transactions-in_default : goal.shape_of-transactions-in_default
+shape_of-transactions-in_default c = c.loop-entry.invariant.transactions
+
+pub returns-in_default : goal.returns-in_default
+unfolding read_segment
+returns-in_default c =
+    let l = c.loop-entry in
+    let x = c.scan_step-step.result in
+    let a = c.args in
+    rw c.ended.ensures (sym (reach_ended l.entries l.transactions a.progress l.lists a.base a.segment.now l.at x (sym c.scan_step-step.ensures) (not_entry x c.in_default.keys2)) ∙ l.invariant.same)
+
+-- the step is an entry's
+stepping : (c : goal.After-admit-arg-in-loop-entry-1 → step_at c.before.before.before.before.before.before.before.before.before.before.before.args.segment.now c.before.before.before.before.before.before.loop.at ≡ Entry c.before.before.before.step.given.0.0 c.before.before.before.step.given.0.1.0
+stepping c = sym c.scan_step-step.ensures ∙ c.in-Entry.is
+
+stepped : (c : goal.After-admit-arg-in-loop-entry-1 → EntryAt c.before.before.before.before.before.before.before.before.before.before.before.args.segment.now c.before.before.before.before.before.before.loop.at c.before.before.before.step.given.0.0 c.before.before.before.step.given.0.1.0
+stepped c = step_entry _ _ _ _ (stepping c)
+
+pub listed-requires : goal.listed-requires
+listed-requires c = omega (arith, (stepped c).end)
+
+pub overflow_add-at : goal.overflow_add-at
+overflow_add-at c = omega (arith, (stepped c).end)
+
+pub loop-entry-smaller : goal.loop-entry-smaller
+loop-entry-smaller c = let t = stepped c in omega (arith, t.end, t.start)
+
+pub loop-entry-preserved : goal.loop-entry-preserved
+loop-entry-preserved c =
+    let l = c.loop-entry in
+    let a = c.args in
+    going_on _ l.entries l.transactions _ _ a.progress l.lists _ a.base a.segment.now l.at _ _ _ l.invariant (stepping c) c.listed.ensures c.admit-lists.ensures

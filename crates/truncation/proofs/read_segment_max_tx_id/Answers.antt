@@ -1,0 +1,39 @@
+-- `read_segment_max_tx_id` meets its contract. The invariant: the highest number so far and the highest of what is left
+use mathlib.Core.Path.{◌≡◌, sym, ◌∙◌}
+use Prim.Native.Nat.{max, ◌-◌}
+use native.Mathlib.Omega.{arith}
+use lib.ListN.{length}
+use Rattle.scan.specs.Highest.{highest_from, highest_of}
+use Rattle.scan.proofs.Walks.{highest_wrong, highest_partial, highest_end}
+use Rattle.truncation.proofs.Scans.{passing_entry, passing_undecodable}
+use borrow.Author.Rules.{rules}
+use Rattle.truncation.proofs.read_segment_max_tx_id.Goals as goal
+
+pub overflow_add-at : goal.overflow_add-at
+overflow_add-at c = omega (arith, (passing_entry _ _ _ _ (sym c.scan_step.ensures ∙ c.in-Entry.is)).end)
+
+pub loop-entry-smaller-in-Entry : goal.loop-entry-smaller-in-Entry
+loop-entry-smaller-in-Entry c = let t = passing_entry _ _ _ _ (sym c.scan_step.ensures ∙ c.in-Entry.is) in omega (arith, t.on, t.end)
+
+pub loop-entry-preserved-in-Entry : goal.loop-entry-preserved-in-Entry
+loop-entry-preserved-in-Entry c =
+    let t = passing_entry _ _ _ _ (sym c.scan_step.ensures ∙ c.in-Entry.is) in
+    omega (arith, t.same, c.higher-max_tx_id.ensures, c.tx_id.ensures, c.loop-entry.invariant)
+
+pub overflow_add-at-in-Undecodable : goal.overflow_add-at-in-Undecodable
+overflow_add-at-in-Undecodable c = omega (arith, (passing_undecodable _ _ _ (sym c.scan_step.ensures ∙ c.in-Undecodable.is)).end)
+
+pub loop-entry-smaller : goal.loop-entry-smaller
+loop-entry-smaller c = let t = passing_undecodable _ _ _ (sym c.scan_step.ensures ∙ c.in-Undecodable.is) in omega (arith, t.on, t.end)
+
+pub loop-entry-preserved : goal.loop-entry-preserved
+loop-entry-preserved c = let t = passing_undecodable _ _ _ (sym c.scan_step.ensures ∙ c.in-Undecodable.is) in omega (arith, t.same, c.loop-entry.invariant)
+
+pub returns-in-End : goal.returns-in-End
+returns-in-End c = omega (arith, highest_end _ _ (sym c.scan_step.ensures ∙ c.in-End.is), c.loop-entry.invariant)
+
+pub returns-in-Torn : goal.returns-in-Torn
+returns-in-Torn c = omega (arith, highest_partial _ _ (sym c.scan_step.ensures ∙ c.in-Torn.is), c.loop-entry.invariant)
+
+pub returns-in-WrongChecksum : goal.returns-in-WrongChecksum
+returns-in-WrongChecksum c = omega (arith, highest_wrong _ _ (sym c.scan_step.ensures ∙ c.in-WrongChecksum.is), c.loop-entry.invariant)

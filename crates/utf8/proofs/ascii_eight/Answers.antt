@@ -1,0 +1,7 @@
+-- `utf8::ascii_eight` meets its contract.
+use Rattle.utf8.proofs.Ascii.{ascii_eight}
+use borrow.Author.Rules.{rules}
+use Rattle.utf8.proofs.ascii_eight.Goals as goal
+
+pub returns : goal.returns
+returns c = ascii_eight c.args.s.now c.requires
