@@ -14,7 +14,7 @@ use Rattle.crc32.specs.Crc.{bit_steps, byte_step, register}
 use Rattle.crc32.proofs.update.Given as goal
 
 abbrev pub invariant-loop-i : goal.invariant-loop-i
-invariant-loop-i l = (l.i ≤ length «data») × (register l.crc (drop l.i «data») ≡ register l.start «data»)
+invariant-loop-i l = (l.i ≤ length l.data) × (register l.crc (drop l.i l.data) ≡ register l.start l.data)
 
 abbrev pub decreases-loop-i : goal.decreases-loop-i
-decreases-loop-i l = length «data» - l.i
+decreases-loop-i l = length l.data - l.i

@@ -14,10 +14,10 @@ use Rattle.utf8.proofs.Ascii.{eight_there, eight_pass}
 use Rattle.utf8.proofs.is_utf8.Goals as goal
 
 -- where eight octets pass, they are there
-asciis : (c : goal.Then-ascii_at → ascii_at c.before.before.before.before.before.before.args.bytes.now c.before.before.before.before.loop.i ≡ true
+asciis : (c : goal.Then-ascii_at) → ascii_at c.args.bytes.now c.loop-i.i ≡ true
 asciis c = sym c.ascii_at.ensures ∙ c.if-ascii_at.true
 
-passed : (c : goal.Then-ascii_at → c.before.before.before.before.loop.i + 8 ≤ length c.before.before.before.before.before.before.args.bytes.now
+passed : (c : goal.Then-ascii_at) → c.loop-i.i + 8 ≤ length c.args.bytes.now
 passed c = eight_there _ _ (asciis c)
 
 pub loop-i-init : goal.loop-i-init

@@ -14,12 +14,12 @@ pub loop-k-init : goal.loop-k-init
 loop-k-init c = (reading_starts _ _ _ _ refl refl, omega arith)
 
 -- the segment ends in the area
-ends-in : (c : goal.After-record_at-segment → end_of c.record-at.result ≤ length c.before.before.before.before.before.before.before.args.area.now
+ends-in : (c : goal.After-record_at-segment) → end_of c.record_at-segment.result ≤ length c.args.area.now
 ends-in c =
     let h : c.loop-k.k < c.args.used = omega arith in
     rw c.record_at-segment.ensures (sound_ends _ _ _ c.requires c.loop-k.k h)
 
-area-most : (c : goal.After-record_at-segment → length c.before.before.before.before.before.before.before.args.area.now ≤ 1_073_741_824
+area-most : (c : goal.After-record_at-segment) → length c.args.area.now ≤ 1_073_741_824
 area-most c = (sound_says _ _ _ c.requires).area
 
 pub overflow_add-end : goal.overflow_add-end

@@ -31,10 +31,10 @@ returns-in_default c =
     rw c.ended.ensures (sym (reach_ended l.entries l.transactions a.progress l.lists a.base a.segment.now l.at x (sym c.scan_step-step.ensures) (not_entry x c.in_default.keys2)) ∙ l.invariant.same)
 
 -- the step is an entry's
-stepping : (c : goal.After-admit-arg-in-loop-entry-1 → step_at c.before.before.before.before.before.before.before.before.before.before.before.args.segment.now c.before.before.before.before.before.before.loop.at ≡ Entry c.before.before.before.step.given.0.0 c.before.before.before.step.given.0.1.0
+stepping : (c : goal.After-admit-arg-in-loop-entry-1) → step_at c.args.segment.now c.loop-entry.at ≡ Entry c.in-Entry.entry c.in-Entry.payload
 stepping c = sym c.scan_step-step.ensures ∙ c.in-Entry.is
 
-stepped : (c : goal.After-admit-arg-in-loop-entry-1 → EntryAt c.before.before.before.before.before.before.before.before.before.before.before.args.segment.now c.before.before.before.before.before.before.loop.at c.before.before.before.step.given.0.0 c.before.before.before.step.given.0.1.0
+stepped : (c : goal.After-admit-arg-in-loop-entry-1) → EntryAt c.args.segment.now c.loop-entry.at c.in-Entry.entry c.in-Entry.payload
 stepped c = step_entry _ _ _ _ (stepping c)
 
 pub listed-requires : goal.listed-requires

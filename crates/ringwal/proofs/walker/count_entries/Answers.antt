@@ -28,11 +28,11 @@ returns-in_default c =
     counting_ends _ l.at l.count l.invariant (ap (λ (v : Walked). is_entry v.step) (sym w.ensures) ∙ n)
 
 -- what stands at the offset, and where the walk goes on
-stepping : (c : goal.In-Entry → step_at c.before.before.before.before.before.args.segment.now c.before.before.before.loop.at ≡ Entry c.enum_told.given.0.0 c.enum_told.given.0.1.0
+stepping : (c : goal.In-Entry) → step_at c.args.segment.now c.loop-count.at ≡ Entry c.in-Entry.entry c.in-Entry.payload
 unfolding walked_at
 stepping c = ap (λ (v : Walked). v.step) (sym c.walk_at-walked.ensures) ∙ c.in-Entry.is
 
-going : (c : goal.In-Entry → c.before.before.walk_at.result.at ≡ end_of c.enum_told.given.0.1.0
+going : (c : goal.In-Entry) → c.walk_at-walked.result.at ≡ end_of c.in-Entry.payload
 unfolding walked_at
 going c =
     ap (λ (v : Walked). v.at) c.walk_at-walked.ensures
