@@ -6,9 +6,7 @@ use Prim.Native.Nat.{ℕ, ◌+◌, ◌-◌, ◌/◌}
 use native.Mathlib.Omega.{arith}
 use lib.ListN.{length, take, drop}
 use Rattle.entry.specs.Decode.{decode_of, content_at}
-use types.Run.{OneOf, miss}
-use denote.Enum.Declared.{tag_of}
-use Rattle.entry.specs.contracts.WalEntry.{the_type}
+use Rattle.std.proofs.Common.{◌⊎◌, inl, inr}
 use Rattle.entry.specs.declared.WalEntry.{WalEntry}
 use Rattle.entry.specs.declared.WalEntry.TheVariants.{Insert, Update, Delete, Commit, Abort}
 use Rattle.entry.specs.declared.decoding.Decoded.TheVariants as Decodes
@@ -43,13 +41,10 @@ pub not_refused : (area : List ℕ) (e : EntryRecord) → EntryIn area e → dec
 not_refused area e i d = let f = rw (← slice_is area e, d) at i.decodes in let z : ◌≡◌ {A = ℕ} 0 1 = cc in omega arith
 
 -- markers change nothing
-pub marker_keeps : (s : List ℕ) (w : WalEntry) → OneOf (3 ∷ 4 ∷ []) (tag_of the_type w) → effect_of (content_at s w) ≡ keeps
+pub marker_keeps : (s : List ℕ) (w : WalEntry) → ((tx : ℕ) × (time : ℕ) × (w ≡ Commit tx time)) ⊎ ((tx : ℕ) × (time : ℕ) × (w ≡ Abort tx time)) → effect_of (content_at s w) ≡ keeps
 unfolding effect_of content_at
-marker_keeps s (Insert tx time key value) h = absurd (miss (3 ∷ 4 ∷ []) 0 tt h)
-marker_keeps s (Update tx time key old new) h = absurd (miss (3 ∷ 4 ∷ []) 1 tt h)
-marker_keeps s (Delete tx time key old) h = absurd (miss (3 ∷ 4 ∷ []) 2 tt h)
-marker_keeps s (Commit tx time) h = refl
-marker_keeps s (Abort tx time) h = refl
+marker_keeps s w (inl h) = rw h.2
+marker_keeps s w (inr h) = rw h.2
 
 -- ---- in a table that holds the rows
 

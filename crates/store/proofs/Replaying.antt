@@ -4,8 +4,6 @@ use mathlib.Core.Path.{◌≡◌, refl, sym, ap, ◌∙◌}
 use mathlib.Core.List.{List, [], ◌∷◌}
 use Prim.Native.Nat.{ℕ, ◌+◌, ◌-◌, ◌/◌, ◌<◌, ◌≤◌}
 use native.Mathlib.Omega.{arith}
-use types.Run.{OneOf}
-use denote.Enum.Declared.{tag_of}
 use lib.ListN.{length, replicate}
 use Rattle.records.specs.Dense.{records_of}
 use Rattle.chains.specs.Chain.{entries_of}
@@ -14,7 +12,6 @@ use Rattle.table.specs.Row.{Row}
 use Rattle.table.specs.Table.{Held}
 use Rattle.table.specs.declared.Set.{Set}
 use Rattle.table.specs.declared.Set.TheVariants as Sets
-use Rattle.table.specs.contracts.Set.{the_type}
 use Rattle.store.specs.Order.{entries_in_turn, replayed}
 use Rattle.store.specs.Change.{run_of}
 use Rattle.store.specs.Running.{transactions_from, next_from, entries_in, rows_in, Linked, Tabled, ran_to, ran_in}
@@ -65,7 +62,7 @@ module _ (area entries transactions table₀ : List ℕ) (k : ℕ) (table : List
           room = g.room_is;
         }
 
-    pub replaying_stops : OneOf (0 ∷ 1 ∷ []) (tag_of the_type r) → ran_to r t ≡ ran_in (length table₀) (run_of (length table₀ / 320) area (replayed (entries_in entries)) [])
+    pub replaying_stops : ((m : ℕ) → r ≡ Sets.Rows m → ⊥) → ran_to r t ≡ ran_in (length table₀) (run_of (length table₀ / 320) area (replayed (entries_in entries)) [])
     replaying_stops o = stopped (length table₀) turn rest r t o ran_turn ∙ ap (ran_in (length table₀)) (sym runs ∙ w.same)
 
 -- the next place is further on

@@ -3,8 +3,6 @@
 use mathlib.Core.Path.{◌≡◌, refl, sym, ap, ◌∙◌}
 use mathlib.Core.List.{List, [], ◌∷◌}
 use Prim.Native.Nat.{ℕ, ◌/◌}
-use types.Run.{OneOf, miss}
-use denote.Enum.Declared.{tag_of}
 use lib.ListN.{length, replicate}
 use Rattle.refusal.specs.Answer.{Answer, refused, accepted, by_answer, and_then}
 use Rattle.refusal.proofs.Answers.{never_both, same_values}
@@ -16,7 +14,6 @@ use Rattle.table.specs.Change.{Changed, changing, result_in}
 use Rattle.table.specs.declared.Set.{Set}
 use Rattle.table.specs.declared.Set.TheVariants as Sets
 use Rattle.table.proofs.Rows.{length_row, row_back}
-use Rattle.table.specs.contracts.Set.{the_type}
 use Rattle.table.proofs.Tables.{none_held, table_length}
 use Rattle.store.specs.Change.{changed_by}
 use Rattle.store.specs.Apply.{change_of}
@@ -54,11 +51,11 @@ went room (accepted new) held r n t e a =
     record { rows_are = rw back; tabled = record { is = rw (back, l) table; held = rw (back, l) h }; room_is = l }
 
 -- a part that gave no rows
-pub stopped : (room : ℕ) (x : Answer (List Row)) (go : List Row → Answer (List Row)) (r : Set) (t : List ℕ) → OneOf (0 ∷ 1 ∷ []) (tag_of the_type r) → ran_to r t ≡ ran_in room x → ran_to r t ≡ ran_in room (and_then x go)
+pub stopped : (room : ℕ) (x : Answer (List Row)) (go : List Row → Answer (List Row)) (r : Set) (t : List ℕ) → ((m : ℕ) → r ≡ Sets.Rows m → ⊥) → ran_to r t ≡ ran_in room x → ran_to r t ≡ ran_in room (and_then x go)
 stopped room (refused number) go r t k e = e
 stopped room (accepted new) go Sets.TooLong t k e = never_both e
 stopped room (accepted new) go Sets.Full t k e = never_both e
-stopped room (accepted new) go (Sets.Rows n) t k e = absurd (miss (0 ∷ 1 ∷ []) 2 tt k)
+stopped room (accepted new) go (Sets.Rows n) t k e = absurd (k n refl)
 
 -- ---- one entry
 

@@ -4,8 +4,6 @@ use mathlib.Core.Path.{◌≡◌, refl, sym, ap, ◌∙◌}
 use mathlib.Core.List.{List, [], ◌∷◌}
 use Prim.Native.Nat.{ℕ, suc, ◌-◌, ◌*◌, ◌/◌, ◌<◌, ◌≤◌}
 use native.Mathlib.Omega.{arith}
-use types.Run.{OneOf}
-use denote.Enum.Declared.{tag_of}
 use lib.ListN.{length, take, drop, get_or}
 use lib.Seq.{split_at, length-take-le}
 use Rattle.records.proofs.Dense.{all_at}
@@ -23,7 +21,6 @@ use Rattle.table.specs.Table.{Held}
 use Rattle.table.specs.Change.{changing}
 use Rattle.table.specs.declared.Set.{Set}
 use Rattle.table.specs.declared.Set.TheVariants as Sets
-use Rattle.table.specs.contracts.Set.{the_type}
 use Rattle.store.specs.Change.{changed_by, run_of}
 use Rattle.store.specs.Apply.{change_of}
 use Rattle.store.specs.Effect.{effect_in}
@@ -116,7 +113,7 @@ module _ (area entries transactions : List ℕ) (l : Linked area entries transac
           room = g.room_is;
         }
 
-    pub walking_stops : OneOf (0 ∷ 1 ∷ []) (tag_of the_type r) → ran_to r t ≡ ran_in (length table₀) (run_of (length table₀ / 320) area (entries_of number (entries_in entries)) (rows_in n₀ table₀))
+    pub walking_stops : ((m : ℕ) → r ≡ Sets.Rows m → ⊥) → ran_to r t ≡ ran_in (length table₀) (run_of (length table₀ / 320) area (entries_of number (entries_in entries)) (rows_in n₀ table₀))
     walking_stops k =
         stopped (length table₀) step _ r t k ran_step ∙ ap (ran_in (length table₀)) (sym runs ∙ w.same)
 

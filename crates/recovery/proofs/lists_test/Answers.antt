@@ -7,18 +7,18 @@ use Rattle.recovery.proofs.lists_test.Goals as goal
 
 pub returns-then-not-fits : goal.returns-then-not-fits
 unfolding lists_test_of
-returns-then-not-fits c = let f = c.fits in rw (← f.ensures, not-true f.result c.if-not-fits.true)
+returns-then-not-fits c = let f = c.fits in rw (← f.ensures, c.if-not-fits.true)
 
 pub returns-then-not-fits-2 : goal.returns-then-not-fits-2
 unfolding lists_test_of
 returns-then-not-fits-2 c =
-    let f = c.fits-2 in
-    let g = c.fits in
-    rw (← f.ensures, not-false f.result c.if-not-fits.false, ← g.ensures, not-true g.result c.if-not-fits-2.true)
+    let f = c.fits in
+    let g = c.fits-2 in
+    rw (← f.ensures, c.if-not-fits.false, ← g.ensures, c.if-not-fits-2.true)
 
 pub returns : goal.returns
 unfolding lists_test_of
 returns c =
-    let f = c.fits-2 in
-    let g = c.fits in
-    rw (← f.ensures, not-false f.result c.if-not-fits.false, ← g.ensures, not-false g.result c.if-not-fits-2.false) c.test.ensures
+    let f = c.fits in
+    let g = c.fits-2 in
+    rw (← f.ensures, c.if-not-fits.false, ← g.ensures, c.if-not-fits-2.false) c.test.ensures

@@ -9,7 +9,7 @@ use Rattle.store.proofs.recover_into_store.Goals as goal
 
 pub returns-then-not-fits : goal.returns-then-not-fits
 unfolding replay_of
-returns-then-not-fits c = let f = c.fits in rw (← f.ensures, not-true f.result c.if-not-fits.true)
+returns-then-not-fits c = let f = c.fits in rw (← f.ensures, c.if-not-fits.true)
 
 pub replay-set-requires : goal.replay-set-requires
 replay-set-requires c =
@@ -20,12 +20,12 @@ pub returns-in-Refused : goal.returns-in-Refused
 unfolding replay_of
 returns-in-Refused c =
     let f = c.fits in
-    rw (← f.ensures, not-false f.result c.if-not-fits.false, ← c.recover.ensures, c.in-Refused.is, c.leave_table.ensures)
+    rw (← f.ensures, c.if-not-fits.false, ← c.recover.ensures, c.in-Refused.is, c.leave_table.ensures)
 
 pub returns-in-Done : goal.returns-in-Done
 unfolding replay_of
 returns-in-Done c =
     let f = c.fits in
-    rw (← f.ensures, not-false f.result c.if-not-fits.false)
+    rw (← f.ensures, c.if-not-fits.false)
     (c.concluded.ensures
-    ∙ replays _ _ _ _ _ _ _ c.in-Done.recovered (λ i. (c.type_inv.area i).fits) (rw c.in-Done.is at c.recover.ensures) c.args.table.now _ _ _ _ c.replay-set.ensures c.replay-set.auto.1.1.1.1.1.0)
+    ∙ replays _ _ _ _ _ _ _ c.in-Done.recovered (λ i. (c.type_inv.area i).fits) (rw c.in-Done.is at c.recover.ensures) c.args.table.now _ _ _ _ c.replay-set.ensures c.replay-set.auto.table)

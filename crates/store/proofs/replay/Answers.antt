@@ -11,13 +11,13 @@ use borrow.Author.Rules.{rules}
 use Rattle.store.proofs.replay.Goals as goal
 
 pub slice_bounds-apply_transactions-end-2 : goal.slice_bounds-apply_transactions-end-2
-slice_bounds-apply_transactions-end-2 c = sym (length-take-le _ _ (omega (arith, c.requires.entries_inside, c.link.auto.0)))
+slice_bounds-apply_transactions-end-2 c = sym (length-take-le _ _ (omega (arith, c.requires.entries_inside, c.link.auto.entries)))
 
 pub slice_bounds-apply_transactions-end-4 : goal.slice_bounds-apply_transactions-end-4
-slice_bounds-apply_transactions-end-4 c = sym (length-take-le _ _ (omega (arith, c.requires.transactions_inside, c.link.auto.1.1.0)))
+slice_bounds-apply_transactions-end-4 c = sym (length-take-le _ _ (omega (arith, c.requires.transactions_inside, c.link.auto.transactions)))
 
 pub apply_transactions-set-requires : goal.apply_transactions-set-requires
-apply_transactions-set-requires c = (lent_linked _ _ _ _ _ c.requires _ _ c.link.ensures, c.clear.ensures ∙ ap (λ (v : ℕ). replicate v 0) (sym c.clear.auto.0))
+apply_transactions-set-requires c = (lent_linked _ _ _ _ _ c.requires _ _ c.link.ensures, c.clear.ensures ∙ ap (λ (v : ℕ). replicate v 0) (sym c.clear.auto.s))
 
 pub returns : goal.returns
 returns c =
@@ -25,5 +25,5 @@ returns c =
     record {
       entries_stay = ap (λ (v : Lent). v.entries) u;
       transactions_stay = ap (λ (v : Lent). v.transactions) u;
-      runs = lent_ran _ _ _ _ _ c.requires _ _ c.link.ensures _ _ c.clear.auto.0 _ c.apply_transactions-set.ensures;
+      runs = lent_ran _ _ _ _ _ c.requires _ _ c.link.ensures _ _ c.clear.auto.s _ c.apply_transactions-set.ensures;
     }

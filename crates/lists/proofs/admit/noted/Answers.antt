@@ -9,5 +9,5 @@ pub returns : goal.returns
 unfolding noted
 returns c =
     let t = c.args.transaction in
-    some_more t.tx_id _ t.count _ _ c.wrapping_add_u64.ensures
+    some_more t.tx_id _ t.count _ _ c.wrapping_add_u64.ensures.value
     ∙ rw (c.decided.ensures, c.to_count.ensures, c.marker-marker.ensures)

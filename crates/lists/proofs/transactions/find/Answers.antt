@@ -16,32 +16,32 @@ unfolding order_in
 returns-then-number-tx_id c =
     let a = c.args in
     let l = c.loop-len in
-    let o : order_in a.transactions.now a.tx-id (l.from + l.len / 2) ≡ Equal =
-    rw (← c.transaction_at-number.ensures, c.if-number-tx_id.true) (numbers_same a.tx-id) in
-    sym (halve_equal (order_in a.transactions.now a.tx-id) l.from l.len (omega arith) o) ∙ l.invariant.1
+    let o : order_in a.transactions.now a.tx_id (l.from + l.len / 2) ≡ Equal =
+    rw (← c.transaction_at-number.ensures, c.if-number-tx_id.true) (numbers_same a.tx_id) in
+    sym (halve_equal (order_in a.transactions.now a.tx_id) l.from l.len (omega arith) o) ∙ l.invariant.1
 
 pub loop-len-preserved-then-number-tx_id-2 : goal.loop-len-preserved-then-number-tx_id-2
 unfolding order_in
 loop-len-preserved-then-number-tx_id-2 c =
     let a = c.args in
     let l = c.loop-len in
-    let o : order_in a.transactions.now a.tx-id (l.from + l.len / 2) ≡ Less =
+    let o : order_in a.transactions.now a.tx_id (l.from + l.len / 2) ≡ Less =
     rw (← c.transaction_at-number.ensures) (numbers_less _ _ c.if-number-tx_id-2.true) in
-    (omega arith, sym (halve_less (order_in a.transactions.now a.tx-id) l.from l.len (omega arith) o) ∙ l.invariant.1)
+    (omega arith, sym (halve_less (order_in a.transactions.now a.tx_id) l.from l.len (omega arith) o) ∙ l.invariant.1)
 
 pub loop-len-preserved : goal.loop-len-preserved
 unfolding order_in
 loop-len-preserved c =
     let a = c.args in
     let l = c.loop-len in
-    let h : a.tx-id < c.transaction_at-number.result.tx_id = omega arith in
-    let o : order_in a.transactions.now a.tx-id (l.from + l.len / 2) ≡ Greater =
+    let h : a.tx_id < c.transaction_at-number.result.tx_id = omega arith in
+    let o : order_in a.transactions.now a.tx_id (l.from + l.len / 2) ≡ Greater =
     rw (← c.transaction_at-number.ensures) (numbers_greater _ _ h) in
-    (omega arith, sym (halve_greater (order_in a.transactions.now a.tx-id) l.from l.len (omega arith) o) ∙ l.invariant.1)
+    (omega arith, sym (halve_greater (order_in a.transactions.now a.tx_id) l.from l.len (omega arith) o) ∙ l.invariant.1)
 
 pub returns : goal.returns
 returns c =
     let a = c.args in
     let l = c.loop-len in
     let e : l.len ≡ 0 = omega arith in
-    sym (halve_none (order_in a.transactions.now a.tx-id) l.from) ∙ (rw e at l.invariant.1)
+    sym (halve_none (order_in a.transactions.now a.tx_id) l.from) ∙ (rw e at l.invariant.1)

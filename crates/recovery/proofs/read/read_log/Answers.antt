@@ -13,27 +13,29 @@ use Rattle.recovery.proofs.read.read_log.Goals as goal
 pub loop-k-init : goal.loop-k-init
 loop-k-init c = (reading_starts _ _ _ _ refl refl, omega arith)
 
--- the segment ends in the area
-ends-in : (c : goal.After-record_at-segment) → end_of c.record_at-segment.result ≤ length c.args.area.now
-ends-in c =
-    let h : c.loop-k.k < c.args.used = omega arith in
-    rw c.record_at-segment.ensures (sound_ends _ _ _ c.requires c.loop-k.k h)
-
-area-most : (c : goal.After-record_at-segment) → length c.args.area.now ≤ 1_073_741_824
-area-most c = (sound_says _ _ _ c.requires).area
-
 pub overflow_add-end : goal.overflow_add-end
-overflow_add-end c = omega (arith, ends-in c, area-most c)
+overflow_add-end c =
+    let h : c.loop-k.k < c.args.used = omega arith in
+    let ends : end_of c.record_at-segment.result ≤ length c.args.area.now = rw c.record_at-segment.ensures (sound_ends _ _ _ c.requires c.loop-k.k h) in
+    let most = (sound_says _ _ _ c.requires).area in
+    omega (arith, ends, most)
 
 pub slice_bounds-read_segment_entries-end : goal.slice_bounds-read_segment_entries-end
-slice_bounds-read_segment_entries-end c = omega (arith, ends-in c)
+slice_bounds-read_segment_entries-end c =
+    let h : c.loop-k.k < c.args.used = omega arith in
+    let ends : end_of c.record_at-segment.result ≤ length c.args.area.now = rw c.record_at-segment.ensures (sound_ends _ _ _ c.requires c.loop-k.k h) in
+    let most = (sound_says _ _ _ c.requires).area in
+    omega (arith, ends)
 
 pub read_segment_entries-progress-requires : goal.read_segment_entries-progress-requires
 read_segment_entries-progress-requires c =
+    let h : c.loop-k.k < c.args.used = omega arith in
+    let ends : end_of c.record_at-segment.result ≤ length c.args.area.now = rw c.record_at-segment.ensures (sound_ends _ _ _ c.requires c.loop-k.k h) in
+    let most = (sound_says _ _ _ c.requires).area in
     let r = c.record_at-segment.result in
     let s = sound_says _ _ _ c.requires in
     let i = c.loop-k.invariant.0 in
-    (omega (arith, ends-in c, area-most c, length-take (r.start + r.length - r.start) (drop r.start c.args.area.now)), omega (arith, i.partial, s.used, s.directory), omega (arith, i.checksum, s.used, s.directory))
+    (omega (arith, ends, most, length-take (r.start + r.length - r.start) (drop r.start c.args.area.now)), omega (arith, i.partial, s.used, s.directory), omega (arith, i.checksum, s.used, s.directory))
 
 pub loop-k-preserved : goal.loop-k-preserved
 loop-k-preserved c =

@@ -28,26 +28,19 @@ returns-in_default c =
     let l = c.loop-entry in
     let x = c.scan_step-step.result in
     let a = c.args in
-    rw c.ended.ensures (sym (reach_ended l.entries l.transactions a.progress l.lists a.base a.segment.now l.at x (sym c.scan_step-step.ensures) (not_entry x c.in_default.keys2)) ∙ l.invariant.same)
-
--- the step is an entry's
-stepping : (c : goal.After-admit-arg-in-loop-entry-1) → step_at c.args.segment.now c.loop-entry.at ≡ Entry c.in-Entry.entry c.in-Entry.payload
-stepping c = sym c.scan_step-step.ensures ∙ c.in-Entry.is
-
-stepped : (c : goal.After-admit-arg-in-loop-entry-1) → EntryAt c.args.segment.now c.loop-entry.at c.in-Entry.entry c.in-Entry.payload
-stepped c = step_entry _ _ _ _ (stepping c)
+    rw c.ended.ensures (sym (reach_ended l.entries l.transactions a.progress l.lists a.base a.segment.now l.at x (sym c.scan_step-step.ensures) (not_entry x c.in_default.not-Entry)) ∙ l.invariant.same)
 
 pub listed-requires : goal.listed-requires
-listed-requires c = omega (arith, (stepped c).end)
+listed-requires c = omega (arith, (step_entry _ _ _ _ (sym c.scan_step-step.ensures ∙ c.in-Entry.is)).end)
 
 pub overflow_add-at : goal.overflow_add-at
-overflow_add-at c = omega (arith, (stepped c).end)
+overflow_add-at c = omega (arith, (step_entry _ _ _ _ (sym c.scan_step-step.ensures ∙ c.in-Entry.is)).end)
 
 pub loop-entry-smaller : goal.loop-entry-smaller
-loop-entry-smaller c = let t = stepped c in omega (arith, t.end, t.start)
+loop-entry-smaller c = let t = step_entry _ _ _ _ (sym c.scan_step-step.ensures ∙ c.in-Entry.is) in omega (arith, t.end, t.start)
 
 pub loop-entry-preserved : goal.loop-entry-preserved
 loop-entry-preserved c =
     let l = c.loop-entry in
     let a = c.args in
-    going_on _ l.entries l.transactions _ _ a.progress l.lists _ a.base a.segment.now l.at _ _ _ l.invariant (stepping c) c.listed.ensures c.admit-lists.ensures
+    going_on _ l.entries l.transactions _ _ a.progress l.lists _ a.base a.segment.now l.at _ _ _ l.invariant (sym c.scan_step-step.ensures ∙ c.in-Entry.is) c.listed.ensures c.admit-lists.ensures

@@ -63,4 +63,4 @@ returns-in-Delete c =
 
 pub returns-in-Commit : goal.returns-in-Commit
 unfolding change_of
-returns-in-Commit c = rw (effect_read _ _ _ _ (sym c.decode.ensures ∙ c.in-Entry.is), marker_keeps _ _ c.in-Commit.keys4)
+returns-in-Commit c = rw (effect_read _ _ _ _ (sym c.decode.ensures ∙ c.in-Entry.is), marker_keeps _ _ c.in-Commit.is)

@@ -15,7 +15,7 @@ apply-set-requires c = rw c.entry_at.ensures (turn_in _ _ _ c.requires.0 _ _ c.l
 
 pub returns-in_default : goal.returns-in_default
 returns-in_default c =
-    walking_stops _ _ _ c.requires.0 _ _ _ _ _ _ c.loop-link-test.true c.loop-link.invariant _ c.entry_at.ensures c.apply-set.result _ c.apply-set.ensures c.in_default.keys2
+    walking_stops _ _ _ c.requires.0 _ _ _ _ _ _ c.loop-link-test.true c.loop-link.invariant _ c.entry_at.ensures c.apply-set.result _ c.apply-set.ensures c.in_default.not-Rows
 
 pub loop-link-smaller : goal.loop-link-smaller
 loop-link-smaller c = turn_falls _ _ _ c.requires.0 _ _ c.loop-link-test.true c.loop-link.invariant.leads _ c.spare-link-in-loop-link.ensures

@@ -13,7 +13,7 @@ apply_transaction-set-requires c = (c.requires.0, c.loop-k-test.true, c.loop-k.i
 
 pub returns-in_default : goal.returns-in_default
 returns-in_default c =
-    replaying_stops _ _ _ _ _ _ _ c.loop-k-test.true c.loop-k.invariant c.apply_transaction-set.result c.apply_transaction-set.new.1.1.1.1.0 c.apply_transaction-set.ensures c.in_default.keys2
+    replaying_stops _ _ _ _ _ _ _ c.loop-k-test.true c.loop-k.invariant c.apply_transaction-set.result c.apply_transaction-set.new.table c.apply_transaction-set.ensures c.in_default.not-Rows
 
 pub loop-k-smaller : goal.loop-k-smaller
 loop-k-smaller c = next_falls c.args.transactions.now c.loop-k.k _ c.loop-k-test.true c.next_transaction-k-in-loop-k.ensures

@@ -9,5 +9,3 @@ returns-in-1 c = rw c.in-1.is
 pub returns-in-2 : goal.returns-in-2
 returns-in-2 c = rw c.in-2.is
 
-pub returns-in_default : goal.returns-in_default
-returns-in_default c = let n = c.in_default.rest in rw (ne_eqb _ _ n.0.1, ne_eqb _ _ n.1)
