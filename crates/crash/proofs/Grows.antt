@@ -47,7 +47,7 @@ held_by h r w =
 pub record Did (l m : Life) (r : Request) : Type 0 where
   pub manager : SegmentManager
   pub write : Write
-  pub well_formed_lem : is_well_formed (asked_by r) ≡ true
+  pub well_formed : is_well_formed (asked_by r) ≡ true
   pub did : Accepts manager l.held.area l.held.directory l.held.used r.lsn (encoded r) write
   pub after : SegmentManager
   pub is : with_last r after (held_by l.held r write) l ≡ m
@@ -72,7 +72,7 @@ module _ (l m : Life) (r : Request) (w : SegmentManager) (is_open : l.writer ≡
           let a = entry_accepted w h.area h.directory h.used r.lsn (encoded r) x (rw raw at answer) in
           let written : g ≡ written_by a.0 w h.area h.directory r.lsn (encoded r) = sym p ∙ raw ∙ a.1.log in
           let f = ap (λ (g : Log). after_append r g l) (sym written) ∙ e in
-          record { manager = w; write = a.0; well_formed_lem = well; did = a.1; after = (written_by a.0 w h.area h.directory r.lsn (encoded r)).manager; is = cc; writer = is_open }
+          record { manager = w; write = a.0; well_formed = well; did = a.1; after = (written_by a.0 w h.area h.directory r.lsn (encoded r)).manager; is = cc; writer = is_open }
 
 pub appended : (l m : Life) (r : Request) → appending r l ≡ some m → Did l m r
 unfolding appending
@@ -128,7 +128,7 @@ module _ (l m : Life) (r : Request) (typed : Typed r) (d : Did l m r) (before : 
   grown_stands : Stands (held_by h r w).area grown
   grown_stands =
       record {
-        accepted = all_append Accepted base.asked (r ∷ []) b.accepted (record { typed = typed; well_formed_lem = d.well_formed_lem }, tt);
+        accepted = all_append Accepted base.asked (r ∷ []) b.accepted (record { typed = typed; well_formed = d.well_formed }, tt);
         long = omega (arith, grown_whole);
         bytes =
             image_behind h.area (encoded r) base.place (length before) b.rotated w b.plan

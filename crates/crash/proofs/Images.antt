@@ -14,7 +14,7 @@ use Rattle.crash.specs.Request.{Request, Typed, asked_by, encoded, Written}
 -- what the entry call accepted
 pub record Accepted (r : Request) : Type 0 where
   pub typed : Typed r
-  pub well_formed_lem : is_well_formed (asked_by r) ≡ true
+  pub well_formed : is_well_formed (asked_by r) ≡ true
 
 unfoldable pub image_of : List Request → List ℕ
 image_of [] = []

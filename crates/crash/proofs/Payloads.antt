@@ -83,4 +83,4 @@ pub accepted_back : (r : Request) → Accepted r → ReadBack (encoded r) r.tx r
 unfolding encoded
 accepted_back r a =
     let t = a.typed in
-    asked_back r.tx r.time t.tx t.time r.key r.old r.new t.key t.old t.new r.kind a.well_formed_lem
+    asked_back r.tx r.time t.tx t.time r.key r.old r.new t.key t.old t.new r.kind a.well_formed

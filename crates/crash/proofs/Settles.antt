@@ -138,7 +138,7 @@ module _ (records : ℕ) (area : List ℕ) (keys : List (List ℕ)) (room : leng
   unfolding effect_in encoded
   apply_settles w rs a h =
       let t = a.kept.accepted.typed in
-      let well = a.kept.accepted.well_formed_lem in
+      let well = a.kept.accepted.well_formed in
       rw (payload_effect (payload_in area (listed_as w)) w.request.tx w.request.time (asked_by w.request) t.tx t.time well a.kept.payload)
       (change_settles records keys room rs h (effect_by w.request) (effect_fits (asked_by w.request) well) a.named)
 

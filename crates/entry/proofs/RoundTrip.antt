@@ -1,4 +1,4 @@
--- There and back: what a well_formed_lem entry's payload is decoded to, whatever stands behind it.
+-- There and back: what a well-formed entry's payload is decoded to, whatever stands behind it.
 -- Assumes nothing.
 use mathlib.Core.Path.{◌≡◌, refl, sym, ap, ◌∙◌}
 use mathlib.Core.Bool.{Bool, true, false, cond, ◌&&◌, and-eq-true_iff}
@@ -177,7 +177,7 @@ module _ (tx time : ℕ) (hx : tx < 2 ^ 64) (ht : time < 2 ^ 64) (rest : List �
   content_payload commit = refl
   content_payload abort = refl
 
--- a well_formed_lem entry can be read back
+-- a well-formed entry can be read back
 key_utf8 : (key : List ℕ) (others : Bool) → (key_fits key && others) ≡ true → is_utf8 key ≡ true
 unfolding key_fits
 key_utf8 key others e =

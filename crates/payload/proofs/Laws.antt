@@ -1,4 +1,4 @@
--- Laws of the payload: how long it is, how long a well_formed_lem one can be, and what is stored of it.
+-- Laws of the payload: how long it is, how long a well-formed one can be, and what is stored of it.
 -- Assumes nothing.
 use mathlib.Core.Path.{◌≡◌, refl, sym}
 use mathlib.Core.Bool.{true, false, ◌&&◌, and-eq-true_iff, false≢true}
@@ -34,7 +34,7 @@ pub length_part : (bytes : List ℕ) → length (part_bytes bytes) ≡ 8 + lengt
 unfolding part_bytes
 length_part bytes = simp (length-append, length_bytes)
 
--- the parts that the kind has are within their limits, as in a well_formed_lem entry
+-- the parts that the kind has are within their limits, as in a well-formed entry
 abbrev pub Limits : Content → Type 0
 Limits (insert key value) = (length key ≤ 64) × (length value ≤ 252)
 Limits (update key old new) = (length key ≤ 64) × (length old ≤ 252) × (length new ≤ 252)
@@ -119,7 +119,7 @@ pub put_nothing : (payload before : List ℕ) → length before < length payload
 unfolding put_of
 put_nothing payload before h = rw (lt-leb (length payload) (length before) h)
 
--- what `encode` answers: of what is not well_formed_lem, of what is, and of a marker
+-- what `encode` answers: of what is not well-formed, of what is, and of a marker
 pub refused : (content : Option Content) (tx time : ℕ) (before : List ℕ) → is_well_formed content ≡ false → encoding NotWellFormed before ≡ encode_of content tx time before
 unfolding encode_of
 refused content tx time before e = rw e

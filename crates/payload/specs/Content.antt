@@ -1,4 +1,4 @@
--- An entry as the log means it, with the bytes of its key and values; its payload; and when it is well_formed_lem.
+-- An entry as the log means it, with the bytes of its key and values; its payload; and when it is well-formed.
 -- Assumes nothing.
 use Rattle.std.specs.Prelude.{ℕ, Bool, true, ◌&&◌, List, [], ◌++◌, leb, length}
 use Rattle.fields.specs.Le.{le_bytes}

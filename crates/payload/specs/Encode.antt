@@ -37,7 +37,7 @@ put_of payload target =
     (encoding (Written (length payload)) (sets target 0 payload))
     (encoding NoRoom target)
 
--- the payload of what is asked for, if that is well_formed_lem
+-- the payload of what is asked for, if that is well-formed
 unfoldable pub encode_of : Option Content → (tx time : ℕ) → (target : List ℕ) → Encoding
 encode_of content tx time target =
     cond (is_well_formed content) (put_of (payload_for tx time content) target) (encoding NotWellFormed target)

@@ -21,7 +21,7 @@ pub const FIXED: usize = 20;
 // The bytes of the length that stands before a key or a value.
 pub const LENGTH: usize = 8;
 
-// The longest payload of a well_formed_lem entry: an update's.
+// The longest payload of a well-formed entry: an update's.
 pub const PAYLOAD_MOST: usize = FIXED + 3 * LENGTH + KEY_MOST + 2 * VALUE_MOST;
 
 #[derive(Clone, Copy)]

@@ -11,7 +11,7 @@ pub enum Refusal {
     InvalidBuffer,
     // The directory breaks its rule, or append finds a used count of 0.
     InvalidDirectory,
-    // The entry call was given what is not a well_formed_lem entry.
+    // The entry call was given what is not a well-formed entry.
     InvalidEntry,
     // A new segment is needed and the last id is 2^64 - 1.
     NoNextSegmentId,

@@ -38,7 +38,7 @@ use Rattle.header.specs.contracts.WalEntryHeader.to_bytes as header-to-bytes
 use Rattle.header.specs.contracts.WalEntryHeader.read as header_read
 use Rattle.header.specs.contracts.WalEntryHeader.from_bytes as header-from-bytes
 use Rattle.header.specs.contracts.WalEntryHeader.validate as header-validate
-use Rattle.payload.specs.contracts.well_formed as well_formed_lem
+use Rattle.payload.specs.contracts.well_formed as well_formed
 use Rattle.payload.specs.contracts.encode as encode
 use Rattle.entry.specs.contracts.WalEntry.tx_id as entry-tx-id
 use Rattle.entry.specs.contracts.WalEntry.timestamp as entry-timestamp
@@ -187,7 +187,7 @@ module _ {M : Type 1} {𝓤 : Ura M} (𝓛 : Logic 𝓤) (mem : Memory → SProp
 
   -- ---- payload
 
-  pub well_formed_determined : Determined well_formed_lem.ended (well_formed_lem.clauses 𝓛 mem run)
+  pub well_formed_determined : Determined well_formed.ended (well_formed.clauses 𝓛 mem run)
   well_formed_determined κs a g r r' ws ws' = answer refl
 
   pub encode_determined : Determined encode.ended (encode.clauses 𝓛 mem run)

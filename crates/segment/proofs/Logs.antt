@@ -51,7 +51,7 @@ abbrev pub PayloadIs : Option Content → (tx time : ℕ) → List ℕ → Type 
 PayloadIs none tx time bytes = ⊥
 PayloadIs (some content) tx time bytes = (well_formed content ≡ true) × (bytes ≡ payload_of tx time content)
 
--- what an answer of `encode` says where the target has room for every well_formed_lem entry
+-- what an answer of `encode` says where the target has room for every well-formed entry
 abbrev pub EncodedAs : Encoded → Option Content → (tx time : ℕ) → List ℕ → Type 0
 EncodedAs (Encodes.Written n) content tx time target = (n ≤ length target) × PayloadIs content tx time (take n target)
 EncodedAs Encodes.NotWellFormed content tx time target = is_well_formed content ≡ false
@@ -75,7 +75,7 @@ encode_says content tx time before after r h e =
     says none = refl
     says (some content) = case_b (well_formed content) (λ q. rw q (put_says content tx time before h q)) (λ q. rw q q)
 
--- any answer but the first is that of an entry that is not well_formed_lem
+-- any answer but the first is that of an entry that is not well-formed
 pub encode_refuses : (content : Option Content) (tx time : ℕ) (before after : List ℕ) (r : Encoded) → 612 ≤ length before → encoding r after ≡ encode_of content tx time before → OneOf (1 ∷ 2 ∷ []) (tag_of the_type r) → is_well_formed content ≡ false
 encode_refuses content tx time before after r h e = by r (encode_says content tx time before after r h e)
   where
@@ -210,7 +210,7 @@ module _ (m : SegmentManager) (area d : List ℕ) (used lsn : ℕ) where
       case_b (well_formed content) (λ q. entry_is_raw m area d used lsn tx time content q)
       (λ q. by_cases (append_test_of (length area) d used) (λ k t. rw t) (λ x t. absurd (n (rw (t, q)))))
 
-  -- what the entry call accepts is well_formed_lem
+  -- what the entry call accepts is well-formed
   pub append_accepted : (tx time : ℕ) (content : Option Content) (x : Added) → (append_of m area d used lsn tx time content).answer ≡ accepted x → is_well_formed content ≡ true
   unfolding append_of
   append_accepted tx time content x e =

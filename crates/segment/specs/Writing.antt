@@ -111,7 +111,7 @@ append_entry_of m area directory used lsn payload =
 abbrev pub encoded_of : (tx time : ℕ) → Option Content → Answer (List ℕ)
 encoded_of tx time content = cond (is_well_formed content) (accepted (payload_for tx time content)) (refused 3)
 
--- "the entry call encodes, takes only well_formed_lem entries, and looks only at the parts their kind has"; 1 and 2 go before 3
+-- "the entry call encodes, takes only well-formed entries, and looks only at the parts their kind has"; 1 and 2 go before 3
 unfoldable pub append_of : SegmentManager → List ℕ → List ℕ → (used lsn tx time : ℕ) → Option Content → Log
 append_of m area directory used lsn tx time content =
     by_answer (and_then (append_test_of (length area) directory used) (λ _. encoded_of tx time content))

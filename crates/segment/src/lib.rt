@@ -190,7 +190,7 @@ impl SegmentManager {
         }
     }
 
-    // The entry call: the raw call on the entry's encoding, if the entry is well_formed_lem.
+    // The entry call: the raw call on the entry's encoding, if the entry is well-formed.
     pub fn append(
         self,
         area: &mut [u8],
@@ -206,7 +206,7 @@ impl SegmentManager {
     ) -> Appending
         ensures { appended result area.new directory.new ≡ append_of self area.old directory.old used lsn tx_id timestamp (asked kind key.now old_value.now new_value.now) }
     {
-        // Every well_formed_lem entry's payload has room: `NoRoom` is never answered.
+        // Every well-formed entry's payload has room: `NoRoom` is never answered.
         let mut data = [0u8; PAYLOAD_MOST];
         match payload::encode(kind, tx_id, timestamp, key, old_value, new_value, &mut data) {
             Encoded::Written(n) => self.append_entry(area, directory, used, lsn, &data[..n]),

@@ -61,7 +61,7 @@ module _ (area : List ℕ) (checkpoint : ℕ) where
       case_b (below r) (λ b. rw b (kept_rule a last (q ∷ rs) (rule_without a last r (q ∷ rs) e)))
       (λ b. rw b (rule_keep a last r (q ∷ rs) (kept_of area checkpoint (q ∷ rs)) (kept_rule a (after_record r) (q ∷ rs)) e))
 
--- ---- the closed_up_lem directory
+-- ---- the closed-up directory
 
 records_held : (n : ℕ) (s : List ℕ) → Bytes s → All Held (records_of n s)
 unfolding records_of

@@ -43,7 +43,7 @@ fn encode(
     )
 }
 
-// `encode` writes so many bytes, where there is room for anything well_formed_lem.
+// `encode` writes so many bytes, where there is room for anything well-formed.
 fn fits(kind: u64, key: usize, old_value: usize, new_value: usize, len: usize) -> bool {
     let mut target = [0xeeu8; 640];
     match encode(kind, key, old_value, new_value, &mut target) {
@@ -53,7 +53,7 @@ fn fits(kind: u64, key: usize, old_value: usize, new_value: usize, len: usize) -
     }
 }
 
-// `encode` finds it not well_formed_lem, and leaves the target as it was.
+// `encode` finds it not well-formed, and leaves the target as it was.
 fn refuses(kind: u64, key: usize, old_value: usize, new_value: usize) -> bool {
     let mut target = [0xeeu8; 640];
     match encode(kind, key, old_value, new_value, &mut target) {
