@@ -53,6 +53,11 @@ pub record Did (l m : Life) (r : Request) : Type 0 where
   pub is : with_last r after (held_by l.held r write) l ≡ m
   pub writer : l.writer ≡ some manager
 
+-- the entry call's log is the raw call's, of the payload
+raw_log : (w : SegmentManager) (area d : List ℕ) (used : ℕ) (r : Request) → is_well_formed (asked_by r) ≡ true → append_of w area d used r.lsn r.tx r.time (asked_by r) ≡ append_entry_of w area d used r.lsn (encoded r)
+unfolding encoded
+raw_log w area d used r well = as_raw w area d used r.lsn r.tx r.time (asked_by r) well
+
 module _ (l m : Life) (r : Request) (w : SegmentManager) (is_open : l.writer ≡ some w) where
   abbrev log : Log
   log =
@@ -68,7 +73,7 @@ module _ (l m : Life) (r : Request) (w : SegmentManager) (is_open : l.writer ≡
           let answer : log.answer ≡ accepted x = rw p q in
           let well = append_accepted w h.area h.directory h.used r.lsn r.tx r.time (asked_by r) x answer in
           let raw : log ≡ append_entry_of w h.area h.directory h.used r.lsn (encoded r) =
-          unfold encoded in as_raw w h.area h.directory h.used r.lsn r.tx r.time (asked_by r) well in
+          raw_log w h.area h.directory h.used r well in
           let a = entry_accepted w h.area h.directory h.used r.lsn (encoded r) x (rw raw at answer) in
           let written : g ≡ written_by a.0 w h.area h.directory r.lsn (encoded r) = sym p ∙ raw ∙ a.1.log in
           let f = ap (λ (g : Log). after_append r g l) (sym written) ∙ e in
