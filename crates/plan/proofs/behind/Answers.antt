@@ -12,16 +12,16 @@ pub returns-then-left-lt-HEADER : goal.returns-then-left-lt-HEADER
 unfolding behind_of
 returns-then-left-lt-HEADER c =
     let a = c.args in
-    rw (lt-leb (13 + a.len) (a.area-len - end_of a.segment) (omega arith))
+    rw (lt-leb (13 + a.len) (a.area_len - end_of a.segment) (omega arith))
 
 pub returns-then-left-len : goal.returns-then-left-len
 unfolding behind_of
 returns-then-left-len c =
     let a = c.args in
-    rw (lt-leb (13 + a.len) (a.area-len - end_of a.segment) (omega arith))
+    rw (lt-leb (13 + a.len) (a.area_len - end_of a.segment) (omega arith))
 
 pub returns : goal.returns
 unfolding behind_of
 returns c =
     let a = c.args in
-    rw (le-leb (13 + a.len) (a.area-len - end_of a.segment) (omega arith))
+    rw (le-leb (13 + a.len) (a.area_len - end_of a.segment) (omega arith))

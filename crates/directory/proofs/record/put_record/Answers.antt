@@ -6,7 +6,6 @@ use native.Mathlib.Omega.{arith}
 use Rattle.fields.proofs.Stores.{sets_out}
 use Rattle.directory.specs.Record.{record_bytes}
 use Rattle.directory.proofs.Records.{put_three}
-use borrow.Author.Rules.{rules}
 use Rattle.directory.proofs.record.put_record.Goals as goal
 
 pub returns-then-directory-k : goal.returns-then-directory-k

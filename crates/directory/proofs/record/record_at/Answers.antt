@@ -3,7 +3,6 @@
 use Prim.Native.Nat.{◌*◌}
 use native.Mathlib.Omega.{arith}
 use Rattle.directory.proofs.Records.{record_is, record_past}
-use borrow.Author.Rules.{rules}
 use Rattle.directory.proofs.record.record_at.Goals as goal
 
 pub returns-then-directory-k : goal.returns-then-directory-k

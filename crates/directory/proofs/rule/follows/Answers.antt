@@ -2,7 +2,6 @@
 -- Assumes nothing.
 use borrow.Author.Tests.{le-ltb, lt-ltb}
 use Rattle.directory.specs.Rule.{follows_of}
-use borrow.Author.Rules.{rules}
 use Rattle.directory.proofs.rule.follows.Goals as goal
 
 pub returns-then-segment-id : goal.returns-then-segment-id

@@ -1,14 +1,14 @@
--- `directory::rule::keeps_rule` meets its contract. The invariant: the records that are left keep the rule, after the
+-- `directory::rule::keeps_rule` meets its contract.
+-- Assumes nothing.
 use mathlib.Core.Path.{◌≡◌, sym, ap, ◌∙◌}
 use mathlib.Core.Bool.{true, false}
-use Prim.Native.Nat.{◌-◌, ◌*◌, ◌≤◌}
+use Prim.Native.Nat.{◌-◌, ◌*◌}
 use lib.ListN.{drop}
-use borrow.Author.Tests.{not-true, not-false, le-leb, lt-leb}
+use borrow.Author.Tests.{le-leb, lt-leb}
 use Rattle.directory.specs.Record.{record_at, records_of}
 use Rattle.directory.specs.Rule.{follows_of, rule_from, directory_rule}
 use Rattle.directory.proofs.Rules.{follows_says, rule_turn, rule_stop}
 use native.Mathlib.Omega.{arith}
-use borrow.Author.Rules.{rules}
 use Rattle.directory.proofs.rule.keeps_rule.Goals as goal
 
 pub returns-then-directory-used : goal.returns-then-directory-used
@@ -27,7 +27,7 @@ returns-then-not-follows c =
     let a = c.args in
     let l = c.loop-k in
     let r = record_at (drop (24 * l.k) a.directory.now) in
-    let f : follows_of a.area l.last r ≡ false = ap (follows_of a.area l.last) (sym c.record_at-segment.ensures) ∙ sym c.follows.ensures ∙ not-true _ c.if-not-follows.true in
+    let f : follows_of a.area l.last r ≡ false = ap (follows_of a.area l.last) (sym c.record_at-segment.ensures) ∙ sym c.follows.ensures ∙ c.if-not-follows.true in
     rule_stop a.area l.last a.used l.k a.directory.now (omega arith) f ∙ l.invariant.1
 
 pub overflow_add-last : goal.overflow_add-last
@@ -35,7 +35,7 @@ overflow_add-last c =
     let a = c.args in
     let l = c.loop-k in
     let r = c.record_at-segment.result in
-    omega (arith, follows_says a.area l.last r (sym c.follows.ensures ∙ not-false _ c.if-not-follows.false))
+    omega (arith, follows_says a.area l.last r (sym c.follows.ensures ∙ c.if-not-follows.false))
 
 pub loop-k-preserved : goal.loop-k-preserved
 loop-k-preserved c =
@@ -43,7 +43,7 @@ loop-k-preserved c =
     let l = c.loop-k in
     let r = record_at (drop (24 * l.k) a.directory.now) in
     let e = c.record_at-segment.ensures in
-    let f : follows_of a.area l.last r ≡ true = ap (follows_of a.area l.last) (sym e) ∙ sym c.follows.ensures ∙ not-false _ c.if-not-follows.false in
+    let f : follows_of a.area l.last r ≡ true = ap (follows_of a.area l.last) (sym e) ∙ sym c.follows.ensures ∙ c.if-not-follows.false in
     (omega arith, rw e (rule_turn a.area l.last a.used l.k a.directory.now (omega arith) f ∙ l.invariant.1))
 
 pub returns : goal.returns

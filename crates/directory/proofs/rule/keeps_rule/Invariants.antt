@@ -1,16 +1,11 @@
 -- `directory::rule::keeps_rule` meets its contract. The invariant: the records that are left keep the rule, after the
 -- last one tested, exactly if the directory keeps it.
 -- Assumes nothing.
-use mathlib.Core.Path.{◌≡◌, sym, ap, ◌∙◌}
-use mathlib.Core.Bool.{true, false}
+use mathlib.Core.Path.{◌≡◌}
 use Prim.Native.Nat.{◌-◌, ◌*◌, ◌≤◌}
 use lib.ListN.{drop}
-use borrow.Author.Tests.{not-true, not-false, le-leb, lt-leb}
-use Rattle.directory.specs.Record.{record_at, records_of}
-use Rattle.directory.specs.Rule.{follows_of, rule_from, directory_rule}
-use Rattle.directory.proofs.Rules.{follows_says, rule_turn, rule_stop}
-use native.Mathlib.Omega.{arith}
-use borrow.Author.Rules.{rules}
+use Rattle.directory.specs.Record.{records_of}
+use Rattle.directory.specs.Rule.{rule_from, directory_rule}
 use Rattle.directory.proofs.rule.keeps_rule.Given as goal
 
 abbrev pub invariant-loop-k : goal.invariant-loop-k

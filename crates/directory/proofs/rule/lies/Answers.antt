@@ -1,6 +1,5 @@
 -- `directory::rule::lies` meets its contract: its tests are the definition's, in their order.
 -- Assumes nothing.
-use borrow.Author.Rules.{rules}
 use borrow.Author.Tests.{le-leb, lt-leb}
 use Rattle.directory.specs.Rule.{lies_of}
 use Rattle.directory.proofs.rule.lies.Goals as goal

@@ -3,7 +3,6 @@
 use mathlib.Core.Path.{◌∙◌}
 use native.Mathlib.Omega.{arith}
 use Rattle.records.proofs.Dense.{closed_up_lem}
-use borrow.Author.Rules.{rules}
 use Rattle.table.proofs.change.close_up.Goals as goal
 
 pub returns : goal.returns

@@ -7,7 +7,6 @@ use lib.ListN.{length}
 use borrow.Author.Tests.{le-leb, lt-leb}
 use Rattle.table.specs.Change.{insert_of}
 use Rattle.records.proofs.Dense.{made_room}
-use borrow.Author.Rules.{rules}
 use Rattle.table.proofs.change.insert_at.Goals as goal
 
 pub returns-then-table-n : goal.returns-then-table-n

@@ -4,7 +4,6 @@ use mathlib.Core.Path.{sym, ◌∙◌}
 use native.Mathlib.Omega.{arith}
 use Rattle.table.specs.Change.{remove_of}
 use Rattle.table.proofs.Within.{found_at}
-use borrow.Author.Rules.{rules}
 use Rattle.table.proofs.change.remove.Goals as goal
 
 pub close_up-requires : goal.close_up-requires

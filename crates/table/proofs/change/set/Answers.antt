@@ -2,31 +2,29 @@
 -- Assumes nothing.
 use mathlib.Core.Path.{sym, ◌∙◌}
 use native.Mathlib.Omega.{arith}
-use borrow.Author.Tests.{not-true, not-false}
 use Rattle.table.specs.Change.{set_of}
 use Rattle.table.proofs.Rows.{fits_true}
 use Rattle.table.proofs.Within.{found_at, found_gap}
-use borrow.Author.Rules.{rules}
 use Rattle.table.proofs.change.set.Goals as goal
 
 pub returns-then-not-fits : goal.returns-then-not-fits
 unfolding set_of
-returns-then-not-fits c = rw (← c.fits.ensures, not-true c.fits.result c.if-not-fits.true)
+returns-then-not-fits c = rw (← c.fits.ensures, c.if-not-fits.true)
 
 pub put_row-requires : goal.put_row-requires
 put_row-requires c =
     let a = c.args in
-    (omega (arith, found_at a.table.now a.n a.key.now _ (sym c.find.ensures ∙ c.in-At.is)), fits_true _ (sym c.fits.ensures ∙ not-false c.fits.result c.if-not-fits.false))
+    (omega (arith, found_at a.table.now a.n a.key.now _ (sym c.find.ensures ∙ c.in-At.is)), fits_true _ (sym c.fits.ensures ∙ c.if-not-fits.false))
 
 pub insert_at-requires : goal.insert_at-requires
 insert_at-requires c =
     let a = c.args in
-    (omega (arith, found_gap a.table.now a.n a.key.now _ (sym c.find.ensures ∙ c.in-Gap.is)), fits_true _ (sym c.fits.ensures ∙ not-false c.fits.result c.if-not-fits.false))
+    (omega (arith, found_gap a.table.now a.n a.key.now _ (sym c.find.ensures ∙ c.in-Gap.is)), fits_true _ (sym c.fits.ensures ∙ c.if-not-fits.false))
 
 pub returns-in-At : goal.returns-in-At
 unfolding set_of
-returns-in-At c = rw (← c.fits.ensures, not-false c.fits.result c.if-not-fits.false, ← c.find.ensures, c.in-At.is, c.put_row.ensures, ← c.used_in-used.ensures)
+returns-in-At c = rw (← c.fits.ensures, c.if-not-fits.false, ← c.find.ensures, c.in-At.is, c.put_row.ensures, ← c.used_in-used.ensures)
 
 pub returns-in-Gap : goal.returns-in-Gap
 unfolding set_of
-returns-in-Gap c = rw (← c.fits.ensures, not-false c.fits.result c.if-not-fits.false, ← c.find.ensures, c.in-Gap.is, ← c.used_in-used.ensures) c.insert_at.ensures
+returns-in-Gap c = rw (← c.fits.ensures, c.if-not-fits.false, ← c.find.ensures, c.in-Gap.is, ← c.used_in-used.ensures) c.insert_at.ensures

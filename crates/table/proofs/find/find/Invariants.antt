@@ -1,13 +1,10 @@
 -- `table::find::find` meets its contract. The invariant: what halving finds in the range that is left is what it finds among all.
 -- Assumes nothing.
-use mathlib.Core.Path.{◌≡◌, sym, ◌∙◌}
+use mathlib.Core.Path.{◌≡◌}
 use Prim.Native.Nat.{◌+◌, ◌/◌, ◌≤◌}
-use native.Mathlib.Omega.{arith}
 use lib.ListN.{length}
-use Rattle.records.specs.Halving.{halved, found_in}
-use Rattle.records.proofs.Halving.{halve_none, halve_less, halve_equal, halve_greater}
+use Rattle.records.specs.Halving.{halved}
 use Rattle.table.specs.Change.{order_in, found_of}
-use borrow.Author.Rules.{rules}
 use Rattle.table.proofs.find.find.Given as goal
 
 abbrev pub invariant-loop-len : goal.invariant-loop-len

@@ -5,7 +5,6 @@ use mathlib.Core.Path.{◌≡◌}
 use native.Mathlib.Omega.{arith}
 use Rattle.table.specs.Change.{order_in}
 use Rattle.table.proofs.Rows.{key_is, key_short}
-use borrow.Author.Rules.{rules}
 use Rattle.table.proofs.find.order_at.Goals as goal
 
 pub overflow_add-end : goal.overflow_add-end

@@ -1,7 +1,6 @@
 -- `table::row::empty_row` meets its contract: the zeros of a record.
 -- Assumes nothing.
 use Rattle.table.specs.Row.{empty_bytes}
-use borrow.Author.Rules.{rules}
 use Rattle.table.proofs.row.empty_row.Goals as goal
 
 pub returns : goal.returns

@@ -2,7 +2,6 @@
 -- Assumes nothing.
 use native.Mathlib.Omega.{arith}
 use Rattle.table.proofs.Rows.{put_zeros}
-use borrow.Author.Rules.{rules}
 use Rattle.table.proofs.row.put_padded.Goals as goal
 
 pub returns : goal.returns

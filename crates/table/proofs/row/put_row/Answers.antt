@@ -2,7 +2,6 @@
 -- Assumes nothing.
 use Prim.Native.Nat.{◌*◌}
 use Rattle.table.proofs.Rows.{put_five}
-use borrow.Author.Rules.{rules}
 use Rattle.table.proofs.row.put_row.Goals as goal
 
 pub returns : goal.returns

@@ -3,7 +3,6 @@
 use Prim.Native.Nat.{◌*◌}
 use native.Mathlib.Omega.{arith}
 use Rattle.table.proofs.Rows.{row_is, row_past}
-use borrow.Author.Rules.{rules}
 use Rattle.table.proofs.row.row_at.Goals as goal
 
 pub returns-then-table-k : goal.returns-then-table-k
