@@ -10,7 +10,7 @@ pub record Range : Type 0 where
 abbrev pub range : ℕ → ℕ → Range
 range l h = record { low = l; high = h }
 
--- %x_e0: this octet
+-- %xE0: this octet
 abbrev pub octet : ℕ → Range
 octet b = range b b
 
@@ -28,8 +28,8 @@ utf8_1 = (range 0x00 0x7F ∷ []) ∷ []
 unfoldable pub utf8_2 : List (List Range)
 utf8_2 = (range 0xC2 0xDF ∷ tail ∷ []) ∷ []
 
--- UTF8-3 = %x_e0 %xA0-BF UTF8-tail / %xE1-EC 2( UTF8-tail ) /
---          %x_eD %x80-9F UTF8-tail / %xEE-EF 2( UTF8-tail )
+-- UTF8-3 = %xE0 %xA0-BF UTF8-tail / %xE1-EC 2( UTF8-tail ) /
+--          %xED %x80-9F UTF8-tail / %xEE-EF 2( UTF8-tail )
 unfoldable pub utf8_3 : List (List Range)
 utf8_3 =
     (octet 0xE0 ∷ range 0xA0 0xBF ∷ tail ∷ [])
@@ -38,8 +38,8 @@ utf8_3 =
     ∷ (range 0xEE 0xEF ∷ tail ∷ tail ∷ [])
     ∷ []
 
--- UTF8-4 = %x_f0 %x90-BF 2( UTF8-tail ) / %xF1-F3 3( UTF8-tail ) /
---          %x_f4 %x80-8F 2( UTF8-tail )
+-- UTF8-4 = %xF0 %x90-BF 2( UTF8-tail ) / %xF1-F3 3( UTF8-tail ) /
+--          %xF4 %x80-8F 2( UTF8-tail )
 unfoldable pub utf8_4 : List (List Range)
 utf8_4 =
     (octet 0xF0 ∷ range 0x90 0xBF ∷ tail ∷ tail ∷ [])
