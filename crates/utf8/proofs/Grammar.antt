@@ -13,6 +13,7 @@ use Rattle.utf8.proofs.Holds.{inside, held}
 module _ {A : Type 0} (p : A → Bool) where
   any_mem : {x : A} {xs : List A} → Memᴰ x xs → p x ≡ true → any p xs ≡ true
   unfolding any
+  any_mem {xs = []} m e = elim m [ ]
   any_mem {xs = y ∷ ys} (Memᴰ.head q) e = rw (← q, e)
   any_mem {xs = y ∷ ys} (Memᴰ.tail m) e = rw (any_mem m e) (or-true (p y))
 

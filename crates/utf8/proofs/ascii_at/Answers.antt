@@ -4,7 +4,6 @@ use mathlib.Core.Path.{◌≡◌}
 use native.Mathlib.Omega.{arith}
 use borrow.Author.Tests.{le-leb, lt-leb}
 use Rattle.utf8.specs.Ascii.{ascii_at}
-use borrow.Author.Rules.{rules}
 use Rattle.utf8.proofs.ascii_at.Goals as goal
 
 pub returns-then-bytes-at-lt8 : goal.returns-then-bytes-at-lt8

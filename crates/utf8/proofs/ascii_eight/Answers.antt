@@ -1,6 +1,5 @@
 -- `utf8::ascii_eight` meets its contract.
 use Rattle.utf8.proofs.Ascii.{ascii_eight}
-use borrow.Author.Rules.{rules}
 use Rattle.utf8.proofs.ascii_eight.Goals as goal
 
 pub returns : goal.returns

@@ -4,7 +4,6 @@ use native.Mathlib.Omega.{arith}
 use Rattle.utf8.specs.Grammar.{begun, utf8_char, utf8_1, utf8_2, utf8_3, utf8_4, tail}
 use Rattle.utf8.specs.State.{next_of}
 use Rattle.utf8.proofs.Stretch.{stretch, begun_same}
-use borrow.Author.Rules.{rules}
 use Rattle.utf8.proofs.begin.Goals as goal
 
 pub returns-in-224 : goal.returns-in-224

@@ -1,12 +1,11 @@
 -- `utf8::is_utf8` meets its contract. The loop's invariant: testing the octets left, from the state now, is testing all.
-use Prim.Native.Nat.{◌≤◌, ◌+◌, ◌-◌}
+use Prim.Native.Nat.{◌≤◌, ◌+◌}
 use mathlib.Core.Path.{◌≡◌, refl, sym, ap, ◌∙◌}
 use mathlib.Core.Bool.{true}
 use native.Mathlib.Omega.{arith}
 use native.Mathlib.Numerals.{add-one}
-use borrow.Author.Rules.{rules}
-use lib.ListN.{length, drop, drop_of_length-le}
-use Rattle.utf8.specs.Grammar.{range, completes, is_utf8}
+use lib.ListN.{length, drop_of_length-le}
+use Rattle.utf8.specs.Grammar.{range, is_utf8}
 use Rattle.utf8.specs.State.{ranges_of, next_of}
 use Rattle.utf8.specs.Ascii.{ascii_at}
 use Rattle.utf8.proofs.Turn.{goes, stops, ended}
@@ -48,8 +47,8 @@ pub loop-i-preserved : goal.loop-i-preserved
 loop-i-preserved c =
     let l = c.loop-i in
     let a = c.args in
-    let n = c.next-1.given in
-    (omega arith, rw add-one (goes a.bytes.now l.i (omega arith) (ranges_of l.s) (ranges_of n.0.0) (ap next_of (sym n.1) ∙ c.step.ensures) ∙ l.invariant.1))
+    let n = c.in-Awaits in
+    (omega arith, rw add-one (goes a.bytes.now l.i (omega arith) (ranges_of l.s) (ranges_of n.next) (ap next_of (sym n.is) ∙ c.step.ensures) ∙ l.invariant.1))
 
 pub returns : goal.returns
 returns c =

@@ -5,7 +5,6 @@ use Rattle.utf8.specs.Grammar.{range, tail, after}
 use Rattle.utf8.specs.State.{next_of}
 use Rattle.utf8.proofs.Holds.{inside, below, above}
 use Rattle.utf8.proofs.Turn.{after_some}
-use borrow.Author.Rules.{rules}
 use Rattle.utf8.proofs.step.Goals as goal
 
 pub returns-then-left-eq0 : goal.returns-then-left-eq0
