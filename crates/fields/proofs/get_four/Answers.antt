@@ -4,7 +4,6 @@ use native.Mathlib.Omega.{arith}
 use Prim.Native.Nat.{◌+◌}
 use Rattle.fields.specs.Le.{le_of}
 use Rattle.fields.proofs.Numbers.{num_four}
-use borrow.Author.Rules.{rules}
 use Rattle.fields.proofs.get_four.Goals as goal
 
 pub overflow_mul-result : goal.overflow_mul-result

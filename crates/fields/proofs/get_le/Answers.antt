@@ -7,7 +7,6 @@ use lib.ListN.{length, drop_of_length-le}
 use lib.Seq.{take-nil}
 use Rattle.fields.specs.Le.{le_of, num_at}
 use Rattle.fields.proofs.Numbers.{num_there}
-use borrow.Author.Rules.{rules}
 use Rattle.fields.proofs.get_le.Goals as goal
 
 pub returns-then-there-eq0 : goal.returns-then-there-eq0

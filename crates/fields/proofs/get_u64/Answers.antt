@@ -4,7 +4,6 @@ use Prim.Native.Nat.{◌+◌}
 use native.Mathlib.Omega.{arith}
 use Rattle.fields.specs.Le.{le_of}
 use Rattle.fields.proofs.Numbers.{num_below, num_four}
-use borrow.Author.Rules.{rules}
 use Rattle.fields.proofs.get_u64.Goals as goal
 
 pub overflow_mul-result : goal.overflow_mul-result

@@ -1,11 +1,8 @@
 -- `fields::get_whole` meets its contract. The invariant: v is the number of the bytes from i on.
 use mathlib.Core.Path.{◌≡◌}
-use Prim.Native.Nat.{◌+◌, ◌-◌, ◌≤◌}
-use lib.ListN.{take, drop}
-use Rattle.fields.specs.Le.{le_of}
+use Prim.Native.Nat.{◌+◌, ◌-◌}
 use Rattle.fields.proofs.Numbers.{read_below, read_start, read_turn}
 use native.Mathlib.Omega.{arith}
-use borrow.Author.Rules.{rules}
 use Rattle.fields.proofs.get_whole.Goals as goal
 
 pub loop-i-init : goal.loop-i-init

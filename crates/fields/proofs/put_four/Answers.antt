@@ -3,7 +3,6 @@
 use native.Mathlib.Omega.{arith}
 use lib.ListN.{length-set}
 use Rattle.fields.proofs.Numbers.{four_stored}
-use borrow.Author.Rules.{rules}
 use Rattle.fields.proofs.put_four.Goals as goal
 
 pub bounds-s-at-2 : goal.bounds-s-at-2

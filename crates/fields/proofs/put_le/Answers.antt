@@ -6,7 +6,6 @@ use lib.Seq.{sets}
 use Rattle.fields.specs.Le.{le_bytes}
 use Rattle.fields.proofs.Numbers.{length_bytes, take_bytes}
 use Rattle.fields.proofs.Stores.{sets_out, sets_there}
-use borrow.Author.Rules.{rules}
 use Rattle.fields.proofs.put_le.Goals as goal
 
 pub returns-then-there-eq0 : goal.returns-then-there-eq0

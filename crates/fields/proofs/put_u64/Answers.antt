@@ -7,7 +7,6 @@ use lib.Seq.{sets}
 use Rattle.fields.specs.Le.{le_bytes}
 use Rattle.fields.proofs.Numbers.{length_bytes, bytes_four}
 use Rattle.fields.proofs.Stores.{sets_join}
-use borrow.Author.Rules.{rules}
 use Rattle.fields.proofs.put_u64.Goals as goal
 
 pub returns : goal.returns

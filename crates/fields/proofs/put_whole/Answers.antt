@@ -1,8 +1,6 @@
 -- `fields::put_whole` meets its contract. The invariant: what is left to write, written on the list as it stands, is the whole written on the list at entry.
 use mathlib.Core.Path.{◌≡◌, refl, ◌∙◌}
-use Prim.Native.Nat.{◌+◌, ◌≤◌}
-use lib.ListN.{length, length-set}
-use lib.Seq.{sets}
+use lib.ListN.{length-set}
 use Rattle.fields.specs.Le.{le_bytes}
 use Rattle.fields.proofs.Numbers.{write_turn}
 use native.Mathlib.Omega.{arith}

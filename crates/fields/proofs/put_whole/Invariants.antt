@@ -1,12 +1,10 @@
 -- `fields::put_whole` meets its contract. The invariant: what is left to write, written on the list as it stands, is the whole written on the list at entry.
 -- Assumes nothing.
-use mathlib.Core.Path.{◌≡◌, refl, ◌∙◌}
+use mathlib.Core.Path.{◌≡◌}
 use Prim.Native.Nat.{◌+◌, ◌≤◌}
-use lib.ListN.{length, length-set}
+use lib.ListN.{length}
 use lib.Seq.{sets}
 use Rattle.fields.specs.Le.{le_bytes}
-use Rattle.fields.proofs.Numbers.{write_turn}
-use native.Mathlib.Omega.{arith}
 use Rattle.fields.proofs.put_whole.Given as goal
 
 abbrev pub invariant-loop-k : goal.invariant-loop-k

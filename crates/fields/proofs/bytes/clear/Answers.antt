@@ -2,7 +2,6 @@
 -- Assumes nothing.
 use mathlib.Core.Path.{◌∙◌}
 use Rattle.fields.proofs.Stores.{zeroed}
-use borrow.Author.Rules.{rules}
 use Rattle.fields.proofs.bytes.clear.Goals as goal
 
 pub returns : goal.returns

@@ -1,11 +1,9 @@
 -- `fields::bytes::compare` meets its contract. The invariant: what is left of both compares as the whole does.
 -- Assumes nothing.
-use mathlib.Core.Path.{◌≡◌, refl, ◌∙◌}
+use mathlib.Core.Path.{◌≡◌}
 use Prim.Native.Nat.{◌-◌, ◌≤◌}
 use lib.ListN.{length, drop}
 use Rattle.fields.specs.Order.{compare_bytes}
-use Rattle.fields.proofs.Ordered.{order_turn, order_less, order_greater, order_longer, order_shorter, order_ended}
-use native.Mathlib.Omega.{arith}
 use Rattle.fields.proofs.bytes.compare.Given as goal
 
 abbrev pub invariant-loop-i : goal.invariant-loop-i

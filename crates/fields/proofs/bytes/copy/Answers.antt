@@ -3,7 +3,6 @@
 use mathlib.Core.Path.{sym, ◌∙◌}
 use native.Mathlib.Omega.{arith}
 use Rattle.fields.proofs.Stores.{sets_out, sets_there}
-use borrow.Author.Rules.{rules}
 use Rattle.fields.proofs.bytes.copy.Goals as goal
 
 pub returns-then-there-eq0 : goal.returns-then-there-eq0

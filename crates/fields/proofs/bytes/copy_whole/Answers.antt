@@ -1,9 +1,8 @@
 -- `fields::bytes::copy_whole` meets its contract. The invariant: what is left to copy, stored in the list as it stands, is the whole stored in the list at entry.
-use mathlib.Core.Path.{◌≡◌, refl, sym, ◌∙◌}
-use Prim.Native.Nat.{◌+◌, ◌-◌, ◌≤◌}
+use mathlib.Core.Path.{refl, sym, ◌∙◌}
 use native.Mathlib.Nat.{add-zero}
-use lib.ListN.{length, take, drop, length-set}
-use lib.Seq.{sets, get_or-take, length-take-le}
+use lib.ListN.{take, length-set}
+use lib.Seq.{get_or-take, length-take-le}
 use Rattle.fields.proofs.Stores.{store_turn, store_end}
 use native.Mathlib.Omega.{arith}
 use Rattle.fields.proofs.bytes.copy_whole.Goals as goal

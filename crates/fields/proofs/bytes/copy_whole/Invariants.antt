@@ -1,12 +1,9 @@
 -- `fields::bytes::copy_whole` meets its contract. The invariant: what is left to copy, stored in the list as it stands, is the whole stored in the list at entry.
 -- Assumes nothing.
-use mathlib.Core.Path.{◌≡◌, refl, sym, ◌∙◌}
+use mathlib.Core.Path.{◌≡◌}
 use Prim.Native.Nat.{◌+◌, ◌-◌, ◌≤◌}
-use native.Mathlib.Nat.{add-zero}
-use lib.ListN.{length, take, drop, length-set}
-use lib.Seq.{sets, get_or-take, length-take-le}
-use Rattle.fields.proofs.Stores.{store_turn, store_end}
-use native.Mathlib.Omega.{arith}
+use lib.ListN.{length, take, drop}
+use lib.Seq.{sets}
 use Rattle.fields.proofs.bytes.copy_whole.Given as goal
 
 abbrev pub invariant-loop-i : goal.invariant-loop-i

@@ -2,7 +2,6 @@
 -- Assumes nothing.
 use mathlib.Core.Path.{sym, ap, ◌∙◌}
 use Rattle.fields.specs.Order.{is_equal, same_bytes}
-use borrow.Author.Rules.{rules}
 use Rattle.fields.proofs.bytes.same.Goals as goal
 
 pub returns-in-Equal : goal.returns-in-Equal

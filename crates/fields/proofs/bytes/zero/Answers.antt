@@ -5,7 +5,6 @@ use native.Mathlib.Omega.{arith}
 use lib.ListN.{replicate, length-replicate}
 use lib.Seq.{sets}
 use Rattle.fields.proofs.Stores.{sets_out, sets_there, take-replicate}
-use borrow.Author.Rules.{rules}
 use Rattle.fields.proofs.bytes.zero.Goals as goal
 
 pub returns-then-there-eq0 : goal.returns-then-there-eq0

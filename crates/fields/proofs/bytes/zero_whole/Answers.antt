@@ -1,10 +1,7 @@
 -- `fields::bytes::zero_whole` meets its contract. The invariant: the zeros that are left, stored in the list as it stands, are all of them stored in the list at entry.
-use mathlib.Core.Path.{◌≡◌, refl, sym, ◌∙◌}
-use mathlib.Core.List.{List}
-use Prim.Native.Nat.{ℕ, ◌+◌, ◌-◌, ◌≤◌}
+use mathlib.Core.Path.{refl, sym, ◌∙◌}
 use native.Mathlib.Nat.{add-zero}
-use lib.ListN.{length, drop, replicate, length-set, length-replicate, get_or-replicate}
-use lib.Seq.{sets}
+use lib.ListN.{length-set, length-replicate, get_or-replicate}
 use Rattle.fields.proofs.Stores.{store_turn, store_end}
 use native.Mathlib.Omega.{arith}
 use Rattle.fields.proofs.bytes.zero_whole.Invariants.{zeros}

@@ -1,13 +1,10 @@
 -- `fields::bytes::zero_whole` meets its contract. The invariant: the zeros that are left, stored in the list as it stands, are all of them stored in the list at entry.
 -- Assumes nothing.
-use mathlib.Core.Path.{◌≡◌, refl, sym, ◌∙◌}
+use mathlib.Core.Path.{◌≡◌}
 use mathlib.Core.List.{List}
 use Prim.Native.Nat.{ℕ, ◌+◌, ◌-◌, ◌≤◌}
-use native.Mathlib.Nat.{add-zero}
-use lib.ListN.{length, drop, replicate, length-set, length-replicate, get_or-replicate}
+use lib.ListN.{length, drop, replicate}
 use lib.Seq.{sets}
-use Rattle.fields.proofs.Stores.{store_turn, store_end}
-use native.Mathlib.Omega.{arith}
 use Rattle.fields.proofs.bytes.zero_whole.Given as goal
 
 abbrev pub zeros : ℕ → List ℕ

@@ -5,7 +5,6 @@ use Prim.Native.Nat.{◌-◌}
 use native.Mathlib.Omega.{arith}
 use lib.Dec.{leb}
 use borrow.Author.Tests.{le-leb, lt-leb}
-use borrow.Author.Rules.{rules}
 use Rattle.fields.proofs.Cases.{case_b, tests}
 use Rattle.records.proofs.moves.lie_in.Goals as goal
 

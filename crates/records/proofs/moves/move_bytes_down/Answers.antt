@@ -1,10 +1,9 @@
 -- `records::moves::move_bytes_down` meets its contract. The invariant: the bytes that are left, moved in the list as it stands, are all of them moved in the list at entry.
 use mathlib.Core.Path.{◌≡◌, refl, ◌∙◌}
-use Prim.Native.Nat.{◌+◌, ◌-◌, ◌≤◌}
+use Prim.Native.Nat.{◌-◌}
 use native.Mathlib.Nat.{add-zero, sub-zero}
 use native.Mathlib.Omega.{arith}
-use lib.ListN.{length, take, drop, length-set}
-use lib.Seq.{sets}
+use lib.ListN.{length-set}
 use Rattle.records.proofs.Stores.{down_turn}
 use Rattle.records.proofs.moves.move_bytes_down.Goals as goal
 

@@ -1,12 +1,9 @@
 -- `records::moves::move_bytes_down` meets its contract. The invariant: the bytes that are left, moved in the list as it stands, are all of them moved in the list at entry.
 -- Assumes nothing.
-use mathlib.Core.Path.{◌≡◌, refl, ◌∙◌}
+use mathlib.Core.Path.{◌≡◌}
 use Prim.Native.Nat.{◌+◌, ◌-◌, ◌≤◌}
-use native.Mathlib.Nat.{add-zero, sub-zero}
-use native.Mathlib.Omega.{arith}
-use lib.ListN.{length, take, drop, length-set}
+use lib.ListN.{length, take, drop}
 use lib.Seq.{sets}
-use Rattle.records.proofs.Stores.{down_turn}
 use Rattle.records.proofs.moves.move_bytes_down.Given as goal
 
 abbrev pub invariant-loop-moved : goal.invariant-loop-moved

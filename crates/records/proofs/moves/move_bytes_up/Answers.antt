@@ -1,9 +1,7 @@
 -- `records::moves::move_bytes_up` meets its contract. The invariant: the bytes that are left, moved in the list as it stands, are all of them moved in the list at entry.
 use mathlib.Core.Path.{◌≡◌, refl, ◌∙◌}
-use Prim.Native.Nat.{◌+◌, ◌≤◌}
 use native.Mathlib.Omega.{arith}
-use lib.ListN.{length, take, drop, length-set}
-use lib.Seq.{sets}
+use lib.ListN.{length-set}
 use Rattle.records.proofs.Stores.{up_turn}
 use Rattle.records.proofs.moves.move_bytes_up.Goals as goal
 

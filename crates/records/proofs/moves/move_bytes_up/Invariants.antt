@@ -1,11 +1,9 @@
 -- `records::moves::move_bytes_up` meets its contract. The invariant: the bytes that are left, moved in the list as it stands, are all of them moved in the list at entry.
 -- Assumes nothing.
-use mathlib.Core.Path.{◌≡◌, refl, ◌∙◌}
+use mathlib.Core.Path.{◌≡◌}
 use Prim.Native.Nat.{◌+◌, ◌≤◌}
-use native.Mathlib.Omega.{arith}
-use lib.ListN.{length, take, drop, length-set}
+use lib.ListN.{length, take, drop}
 use lib.Seq.{sets}
-use Rattle.records.proofs.Stores.{up_turn}
 use Rattle.records.proofs.moves.move_bytes_up.Given as goal
 
 abbrev pub invariant-loop-left : goal.invariant-loop-left

@@ -1,7 +1,6 @@
 -- `records::moves::move_up` meets its contract: the bytes are moved where they lie in the buffer.
 -- Assumes nothing.
 use mathlib.Core.Path.{sym, ◌∙◌}
-use borrow.Author.Rules.{rules}
 use borrow.Author.Tests.{leb-true}
 use Rattle.records.specs.Moves.{moved_up}
 use Rattle.records.proofs.moves.move_up.Goals as goal
