@@ -4,8 +4,8 @@
 // built on the stack, as a constant array would be, and nobody lends a table. The keys start at the table's size: from 0 to
 // 255 the compiler would take the key for a signed byte, which is slower. Entry 0 is 0 and stands at `_`.
 //
-// The key lies in a struct, since the borrow checker does not go into a `match` on a field. It would go through the arms one
-// by one, at 12 seconds and more. One law covers them all: proofs/tables/Lookup.antt.
+// The key lies in a struct, as the law of proofs/tables/Lookup.antt has it. That one law covers all the arms: the borrow
+// checker would go through them one by one, with a goal for each.
 ghost use Rattle.std.specs.Prelude.{◌≡◌, ◌%◌};
 ghost use Rattle.crc32.specs.Crc.{bit_steps};
 

@@ -2,7 +2,6 @@
 -- Assumes nothing.
 use mathlib.Core.Path.{ap, ◌∙◌}
 use Prim.Native.Nat.{◌/◌}
-use borrow.Author.Rules.{rules}
 use lib.Bits.{bit_xor}
 use Rattle.crc32.proofs.Linear.{above}
 use Rattle.crc32.proofs.one.Goals as goal
