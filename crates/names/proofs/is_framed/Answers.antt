@@ -8,8 +8,6 @@ use Rattle.fields.specs.Order.{same_bytes}
 use Rattle.names.specs.Name.{prefix, suffix}
 use Rattle.names.proofs.Reading.{framed_short, framed_first, framed_last}
 use native.Mathlib.Omega.{arith}
-use borrow.Author.Rules.{rules}
-use borrow.Author.Tests.{not-true, not-false}
 use Rattle.names.proofs.is_framed.Goals as goal
 
 pub returns-then-name : goal.returns-then-name
@@ -18,16 +16,10 @@ returns-then-name c = framed_short c.args.name.now c.if-name.true
 pub slice_bounds-same-end : goal.slice_bounds-same-end
 slice_bounds-same-end c = sym (length-take-le 4 c.args.name.now (omega arith))
 
--- NEED? slice-aggregate-same-2 : tie.Need-slice-aggregate-same-2
--- NEED? slice-aggregate-same-2 c = search rules
-
 pub returns-then-not-same : goal.returns-then-not-same
 unfolding prefix
 returns-then-not-same c =
-    framed_first c.args.name.now (sym c.same.ensures ∙ not-true c.same.result c.if-not-same.true)
-
--- NEED? slice-aggregate-same-3 : tie.Need-slice-aggregate-same-3
--- NEED? slice-aggregate-same-3 c = search rules
+    framed_first c.args.name.now (sym c.same.ensures ∙ c.if-not-same.true)
 
 pub returns : goal.returns
 unfolding prefix suffix
@@ -36,4 +28,4 @@ returns c =
     let l : length (drop (length name - 4) name) ≤ length name - (length name - 4) = rw length-drop (omega arith) in
     c.same-2.ensures
     ∙ ap (λ part. same_bytes part suffix) (take_all (length name - (length name - 4)) (drop (length name - 4) name) l)
-    ∙ framed_last name (omega arith) (sym c.same.ensures ∙ not-false c.same.result c.if-not-same.false)
+    ∙ framed_last name (omega arith) (sym c.same.ensures ∙ c.if-not-same.false)

@@ -8,7 +8,6 @@ use Rattle.names.specs.Decimal.{digits_of, padded, low_digits}
 use Rattle.names.specs.Name.{prefix, suffix}
 use Rattle.names.proofs.Writing.{length_parts, width_most, name_stored, refuses, accepts}
 use native.Mathlib.Omega.{arith}
-use borrow.Author.Rules.{rules}
 use Rattle.names.proofs.segment_name.Goals as goal
 
 pub overflow_add-end : goal.overflow_add-end
@@ -22,22 +21,13 @@ returns-then-target-end c =
     let a = c.args in
     refuses a.id a.target.now (omega (arith, length_parts a.id))
 
--- NEED? slice-aggregate-copy : tie.Need-slice-aggregate-copy
--- NEED? slice-aggregate-copy c = search rules
-
--- NEED? slice-aggregate-copy-2 : tie.Need-slice-aggregate-copy-2
--- NEED? slice-aggregate-copy-2 c = search rules
-
--- NEED? add-t7 : tie.Need-overflow-add-t7
--- NEED? add-t7 c = search rules
-
 pub returns : goal.returns
 unfolding prefix suffix
 returns c =
     let a = c.args in
     let n = c.width-digits.result in
     let e : n ≡ length (padded 8 (digits_of a.id)) = c.width-digits.ensures in
-    let s : c.copy-2.new.0 ≡ sets (sets (sets a.target.now 0 prefix) 4 (low_digits n a.id)) (4 + n) suffix =
+    let s : c.copy-2.new.target ≡ sets (sets (sets a.target.now 0 prefix) 4 (low_digits n a.id)) (4 + n) suffix =
     c.copy-2.ensures
     ∙ ap (λ l. sets l (4 + n) suffix) (c.put.ensures ∙ ap (λ l. sets l 4 (low_digits n a.id)) c.copy.ensures) in
     accepts a.id a.target.now _ _ (omega (arith, length_parts a.id)) (omega (arith, length_parts a.id)) (s ∙ name_stored a.target.now a.id n e)

@@ -2,7 +2,6 @@
 -- Assumes nothing.
 use native.Mathlib.Omega.{arith}
 use Rattle.names.proofs.Reading.{plus_empty, plus_dropped, plus_absent}
-use borrow.Author.Rules.{rules}
 use Rattle.names.proofs.unsigned.Goals as goal
 
 pub returns-then-text-eq0 : goal.returns-then-text-eq0

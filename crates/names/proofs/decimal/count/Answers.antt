@@ -1,8 +1,4 @@
 -- `names::decimal::count` meets its contract. The invariant: what is counted and what is left are one more than all digits.
-use mathlib.Core.Path.{◌≡◌}
-use Prim.Native.Nat.{◌+◌}
-use lib.ListN.{length}
-use Rattle.names.specs.Decimal.{digits_of}
 use Rattle.names.proofs.Digits.{digits_some, digits_most, length_last, length_more}
 use native.Mathlib.Omega.{arith}
 use Rattle.names.proofs.decimal.count.Goals as goal

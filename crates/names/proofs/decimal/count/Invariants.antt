@@ -4,8 +4,6 @@ use mathlib.Core.Path.{◌≡◌}
 use Prim.Native.Nat.{◌+◌}
 use lib.ListN.{length}
 use Rattle.names.specs.Decimal.{digits_of}
-use Rattle.names.proofs.Digits.{digits_some, digits_most, length_last, length_more}
-use native.Mathlib.Omega.{arith}
 use Rattle.names.proofs.decimal.count.Given as goal
 
 abbrev pub invariant-loop-rest : goal.invariant-loop-rest

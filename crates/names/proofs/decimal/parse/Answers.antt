@@ -1,11 +1,7 @@
 -- `names::decimal::parse` meets its contract. The invariant: the bytes that are left, read after v, are the whole text's number.
-use mathlib.Core.Path.{◌≡◌, sym, ◌∙◌}
-use Prim.Native.Nat.{◌-◌, ◌≤◌, ◌<◌, ◌^◌}
-use lib.ListN.{length, drop}
-use Rattle.names.specs.Decimal.{number_after, number_in}
+use mathlib.Core.Path.{sym, ◌∙◌}
 use Rattle.names.proofs.Numerals.{number_start, number_none, read_turn, read_stop, read_end}
 use native.Mathlib.Omega.{arith}
-use borrow.Author.Rules.{rules}
 use Rattle.names.proofs.decimal.parse.Goals as goal
 
 pub returns-then-text-eq0 : goal.returns-then-text-eq0

@@ -1,12 +1,9 @@
 -- `names::decimal::parse` meets its contract. The invariant: the bytes that are left, read after v, are the whole text's number.
 -- Assumes nothing.
-use mathlib.Core.Path.{◌≡◌, sym, ◌∙◌}
+use mathlib.Core.Path.{◌≡◌}
 use Prim.Native.Nat.{◌-◌, ◌≤◌, ◌<◌, ◌^◌}
 use lib.ListN.{length, drop}
 use Rattle.names.specs.Decimal.{number_after, number_in}
-use Rattle.names.proofs.Numerals.{number_start, number_none, read_turn, read_stop, read_end}
-use native.Mathlib.Omega.{arith}
-use borrow.Author.Rules.{rules}
 use Rattle.names.proofs.decimal.parse.Given as goal
 
 abbrev pub invariant-loop-i : goal.invariant-loop-i

@@ -1,8 +1,6 @@
 -- `names::decimal::put` meets its contract. The invariant: the digits that are left, stored in the list as it stands, are all of them stored in the list at entry.
 use mathlib.Core.Path.{◌≡◌, refl, ◌∙◌}
-use Prim.Native.Nat.{◌≤◌}
-use lib.ListN.{length, length-set}
-use lib.Seq.{sets}
+use lib.ListN.{length-set}
 use Rattle.names.specs.Decimal.{low_digits}
 use Rattle.names.proofs.Digits.{put_turn}
 use native.Mathlib.Omega.{arith}

@@ -1,12 +1,10 @@
 -- `names::decimal::put` meets its contract. The invariant: the digits that are left, stored in the list as it stands, are all of them stored in the list at entry.
 -- Assumes nothing.
-use mathlib.Core.Path.{◌≡◌, refl, ◌∙◌}
+use mathlib.Core.Path.{◌≡◌}
 use Prim.Native.Nat.{◌≤◌}
-use lib.ListN.{length, length-set}
+use lib.ListN.{length}
 use lib.Seq.{sets}
 use Rattle.names.specs.Decimal.{low_digits}
-use Rattle.names.proofs.Digits.{put_turn}
-use native.Mathlib.Omega.{arith}
 use Rattle.names.proofs.decimal.put.Given as goal
 
 abbrev pub invariant-loop-i : goal.invariant-loop-i

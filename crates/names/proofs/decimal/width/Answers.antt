@@ -3,7 +3,6 @@
 use native.Mathlib.Omega.{arith}
 use Rattle.names.specs.Decimal.{digits_of}
 use Rattle.names.proofs.Digits.{length-padded}
-use borrow.Author.Rules.{rules}
 use Rattle.names.proofs.decimal.width.Goals as goal
 
 pub returns-then-n-lt8 : goal.returns-then-n-lt8

@@ -6,7 +6,6 @@ use mathlib.Core.List.{[]}
 use native.Mathlib.Omega.{arith}
 use Rattle.names.proofs.Numerals.{digit_low, digit_high, digit_over, digit_taken, number_end}
 use Rattle.names.specs.declared.decimal.Number.TheVariants.{Value}
-use borrow.Author.Rules.{rules}
 use Rattle.names.proofs.decimal.with_digit.Goals as goal
 
 pub returns-then-byte-lt48 : goal.returns-then-byte-lt48
