@@ -1,10 +1,8 @@
 -- What an append leaves: the entry's bytes behind its segment's and every other segment as it was, or nothing changed at all.
 -- Assumes nothing.
-use Rattle.std.proofs.Common.{◌≡◌, ℕ, ◌+◌, ◌-◌, ◌<◌, ◌≤◌, Bool, true, false, List, [], ◌∷◌, ◌++◌, map, length, take, drop, sym, refl, ap, ◌∙◌, ⊎_elim, arith, length-append, length-drop, length-take-le, take_at, le-leb}
+use Rattle.std.proofs.Common.{◌≡◌, ℕ, ◌+◌, ◌-◌, ◌<◌, ◌≤◌, Bool, true, false, List, [], ◌∷◌, ◌++◌, map, length, take, drop, sym, refl, ap, ◌∙◌, ◌⊎◌, ⊎_elim, arith, length-append, length-drop, length-take-le, take_at, le-leb}
 use mathlib.Core.Bool.{false≢true}
 use mathlib.Core.Option.{Option, none, some}
-use types.Run.{OneOf, miss}
-use denote.Enum.Declared.{tag_of}
 use lib.Seq.{sets, sets-eq, length-sets, take-append_seam}
 use Rattle.fields.proofs.Cases.{case_b}
 use Rattle.fields.proofs.Stores.{sets_join, sets_front, take-sets, drop-sets}
@@ -16,7 +14,6 @@ use Rattle.payload.specs.Content.{Content, payload_of, well_formed}
 use Rattle.payload.specs.Encode.{Encoding, is_well_formed, encoding, put_of, encode_of}
 use Rattle.payload.specs.declared.Encoded.{Encoded}
 use Rattle.payload.specs.declared.Encoded.TheVariants as Encodes
-use Rattle.payload.specs.contracts.Encoded.{the_type}
 use Rattle.payload.proofs.Laws.{payload_most}
 use Rattle.directory.specs.Record.{records_of, end_of}
 use Rattle.directory.specs.Rule.{test_of, end_before, rule_from, after_record}
@@ -76,13 +73,10 @@ encode_says content tx time before after r h e =
     says (some content) = case_b (well_formed content) (λ q. rw q (put_says content tx time before h q)) (λ q. rw q q)
 
 -- any answer but the first is that of an entry that is not well-formed
-pub encode_refuses : (content : Option Content) (tx time : ℕ) (before after : List ℕ) (r : Encoded) → 612 ≤ length before → encoding r after ≡ encode_of content tx time before → OneOf (1 ∷ 2 ∷ []) (tag_of the_type r) → is_well_formed content ≡ false
-encode_refuses content tx time before after r h e = by r (encode_says content tx time before after r h e)
-  where
-    by : (r : Encoded) → EncodedAs r content tx time after → OneOf (1 ∷ 2 ∷ []) (tag_of the_type r) → is_well_formed content ≡ false
-    by (Encodes.Written n) s k = absurd (miss (1 ∷ 2 ∷ []) 0 tt k)
-    by Encodes.NotWellFormed s k = s
-    by Encodes.NoRoom s k = absurd s
+pub encode_refuses : (content : Option Content) (tx time : ℕ) (before after : List ℕ) (r : Encoded) → 612 ≤ length before → encoding r after ≡ encode_of content tx time before → (r ≡ Encodes.NotWellFormed) ⊎ (r ≡ Encodes.NoRoom) → is_well_formed content ≡ false
+encode_refuses content tx time before after r h e k =
+    let s = encode_says content tx time before after r h e in
+    ⊎_elim (λ q. rw q at s) (λ q. absurd (rw q at s)) k
 
 module _ (m : SegmentManager) (area d : List ℕ) (used lsn tx time : ℕ) where
   -- the entry call is the raw call on the entry's encoding

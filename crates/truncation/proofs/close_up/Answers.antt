@@ -1,12 +1,10 @@
--- `close_up` meets its contract. The invariant: the kept records that are left, stored behind those that stand closed up,
+-- `close_up` meets its contract.
+-- Assumes nothing.
 use mathlib.Core.Path.{◌∙◌}
-use mathlib.Core.Logic.{⊎_elim}
-use Prim.Native.Nat.{◌-◌}
 use native.Mathlib.Omega.{arith}
-use borrow.Author.Tests.{not-true, not-false}
 use Rattle.directory.proofs.Sound.{sound_says, sound_ends}
-use Rattle.truncation.proofs.Closing.{Closing, closing_start, closing_dropped, closing_kept, closing_end}
-use borrow.Author.Rules.{rules}
+use Rattle.truncation.proofs.Closing.{closing_start, closing_dropped, closing_kept, closing_end}
+use Rattle.truncation.proofs.close_up.Goals.{then-not-is_dropped, else-not-is_dropped}
 use Rattle.truncation.proofs.close_up.Goals as goal
 
 pub loop-k-init : goal.loop-k-init
@@ -23,10 +21,12 @@ loop-k-preserved c =
     let l = c.loop-k in
     let r = c.record_at-segment in
     let t = c.is_dropped in
-    ⊎_elim
-    (λ w. rw (w.5, w.6, w.2.ensures) (closing_kept _ _ _ _ _ _ _ r.result t.result l.invariant (omega arith) r.ensures t.ensures (not-true t.result w.0.taken)))
-    (λ w. rw (w.1, w.2) (closing_dropped _ _ _ _ _ _ _ r.result t.result l.invariant (omega arith) r.ensures t.ensures (not-false t.result w.0.left)))
-    c.if-not-is_dropped.branch
+    elim c.if-not-is_dropped.branch [
+      then-not-is_dropped w ↦
+        rw (w.directory-is, w.kept-is, w.put_record.ensures) (closing_kept _ _ _ _ _ _ _ r.result t.result l.invariant (omega arith) r.ensures t.ensures w.if-not-is_dropped.true)
+    | else-not-is_dropped w ↦
+        rw (w.directory-is, w.kept-is) (closing_dropped _ _ _ _ _ _ _ r.result t.result l.invariant (omega arith) r.ensures t.ensures w.if-not-is_dropped.false)
+    ]
 
 pub overflow_mul-freed : goal.overflow_mul-freed
 overflow_mul-freed c = omega (arith, sound_says _ _ _ c.requires)

@@ -5,7 +5,7 @@ use borrow.Author.Tests.{le-ltb, lt-ltb}
 use Rattle.truncation.proofs.is_below.Goals as goal
 
 pub returns-then-max_tx_id-eq0 : goal.returns-then-max_tx_id-eq0
-returns-then-max_tx_id-eq0 c = rw (le-ltb 0 c.args.«max-tx-id» (omega arith))
+returns-then-max_tx_id-eq0 c = rw (le-ltb 0 c.args.max_tx_id (omega arith))
 
 pub returns : goal.returns
-returns c = rw (lt-ltb 0 c.args.«max-tx-id» (omega arith))
+returns c = rw (lt-ltb 0 c.args.max_tx_id (omega arith))

@@ -1,4 +1,5 @@
--- `read_segment_max_tx_id` meets its contract. The invariant: the highest number so far and the highest of what is left
+-- `read_segment_max_tx_id` meets its contract.
+-- Assumes nothing.
 use mathlib.Core.Path.{◌≡◌, sym, ◌∙◌}
 use Prim.Native.Nat.{max, ◌-◌}
 use native.Mathlib.Omega.{arith}
@@ -8,6 +9,10 @@ use Rattle.scan.proofs.Walks.{highest_wrong, highest_partial, highest_end}
 use Rattle.truncation.proofs.Scans.{passing_entry, passing_undecodable}
 use borrow.Author.Rules.{rules}
 use Rattle.truncation.proofs.read_segment_max_tx_id.Goals as goal
+
+pub loop-entry-init : goal.loop-entry-init
+unfolding highest_of
+loop-entry-init c = omega arith
 
 pub overflow_add-at : goal.overflow_add-at
 overflow_add-at c = omega (arith, (passing_entry _ _ _ _ (sym c.scan_step.ensures ∙ c.in-Entry.is)).end)

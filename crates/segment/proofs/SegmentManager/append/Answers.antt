@@ -19,5 +19,5 @@ returns-in-Written c =
 
 pub returns-in-NotWellFormed : goal.returns-in-NotWellFormed
 returns-in-NotWellFormed c =
-    let e = encode_refuses _ _ _ _ _ _ (omega arith) c.encode.ensures c.in-NotWellFormed.keys2 in
+    let e = encode_refuses _ _ _ _ _ _ (omega arith) c.encode.ensures c.in-NotWellFormed.is in
     rw (c.refused.ensures, c.not_well_formed.ensures) (entry_not_written _ _ _ _ _ _ _ _ e)

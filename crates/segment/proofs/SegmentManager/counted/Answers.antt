@@ -6,8 +6,8 @@ use Rattle.segment.proofs.SegmentManager.counted.Goals as goal
 
 pub returns-then-self-eq0 : goal.returns-then-self-eq0
 unfolding counted
-returns-then-self-eq0 c = rw (c.wrapping_add_u64.ensures, eq-eqb _ _ c.if-self-eq0.true)
+returns-then-self-eq0 c = rw (c.wrapping_add_u64.ensures.value, eq-eqb _ _ c.if-self-eq0.true)
 
 pub returns-else-self-eq0 : goal.returns-else-self-eq0
 unfolding counted
-returns-else-self-eq0 c = rw (c.wrapping_add_u64.ensures, ne_eqb _ _ c.if-self-eq0.false)
+returns-else-self-eq0 c = rw (c.wrapping_add_u64.ensures.value, ne_eqb _ _ c.if-self-eq0.false)

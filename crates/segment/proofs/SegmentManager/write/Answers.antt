@@ -4,8 +4,6 @@ use Rattle.segment.proofs.Logs.{entry_stored}
 use Rattle.std.proofs.Common.{rules}
 use Rattle.segment.proofs.SegmentManager.write.Goals as goal
 
--- NEED? add-t23 : tie.Need-overflow-add-t23
--- NEED? add-t23 c = search rules
 
 pub returns : goal.returns
 returns c =
