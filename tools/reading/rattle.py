@@ -47,7 +47,7 @@ def closing(text, at):
 def crates():
     """The crates of crates.txt, in its order."""
     lines = text_of(ROOT / 'crates.txt').splitlines()
-    return [line.split(':')[0].strip() for line in lines if ':' in line.split('#')[0]]
+    return [line.split(':')[0].split()[0] for line in lines if ':' in line.split('#')[0]]
 
 
 @cache

@@ -19,7 +19,7 @@ pub fn append(
     old_value: &[u8],
     new_value: &[u8],
 ) -> Appended
-    ensures { appended (record { manager = manager.exit.now; answer = result }) area.new directory.new ≡ append_of manager.entry.now area.old directory.old used lsn tx_id timestamp (asked kind key.now old_value.now new_value.now) }
+    ensures { appended (record { manager = manager.new; answer = result }) area.new directory.new ≡ append_of manager.old area.old directory.old used lsn tx_id timestamp (asked kind key.now old_value.now new_value.now) }
 {
     let before = *manager;
     let done = before.append(

@@ -11,23 +11,23 @@ use contract.Monad.{Fun, fact, fact_i, fact_use}
 use denote.Triple.Clauses.{Clauses, Ended, Lasts, at_exit}
 use denote.Triple.Entry.{Args, Res}
 use Rattle.ringwal_c.specs.contracts.writing.ringwal_new as new
-use Rattle.ringwal_c.specs.contracts.writing.ringwal_with_default_size as with-default-size
+use Rattle.ringwal_c.specs.contracts.writing.ringwal_with_default_size as with_default_size
 use Rattle.ringwal_c.specs.contracts.writing.ringwal_open as opening
 use Rattle.ringwal_c.specs.contracts.writing.ringwal_rotate as rotate
-use Rattle.ringwal_c.specs.contracts.writing.ringwal_append_entry as append-entry
+use Rattle.ringwal_c.specs.contracts.writing.ringwal_append_entry as append_entry
 use Rattle.ringwal_c.specs.contracts.writing.ringwal_append as append
-use Rattle.ringwal_c.specs.contracts.in_place.ringwal_append_in_place as append-in-place
+use Rattle.ringwal_c.specs.contracts.in_place.ringwal_append_in_place as append_in_place
 use Rattle.ringwal_c.specs.contracts.recovering.ringwal_recover as recover
-use Rattle.ringwal_c.specs.contracts.recovering.ringwal_recover_into_store as recover-into-store
-use Rattle.ringwal_c.specs.contracts.checkpoints.ringwal_read_checkpoint as read-checkpoint
+use Rattle.ringwal_c.specs.contracts.recovering.ringwal_recover_into_store as recover_into_store
+use Rattle.ringwal_c.specs.contracts.checkpoints.ringwal_read_checkpoint as read_checkpoint
 use Rattle.ringwal_c.specs.contracts.checkpoints.ringwal_checkpoint as checkpoint
-use Rattle.ringwal_c.specs.contracts.checkpoints.ringwal_truncate_segments_before as truncate-segments-before
-use Rattle.ringwal_c.specs.contracts.naming.ringwal_segment_name as segment-name
-use Rattle.ringwal_c.specs.contracts.naming.ringwal_parse_segment_name as parse-segment-name
-use Rattle.ringwal_c.specs.contracts.house_records.ringwal_segment_at as segment-at
-use Rattle.ringwal_c.specs.contracts.house_records.ringwal_put_segment as put-segment
+use Rattle.ringwal_c.specs.contracts.checkpoints.ringwal_truncate_segments_before as truncate_segments_before
+use Rattle.ringwal_c.specs.contracts.naming.ringwal_segment_name as segment_name
+use Rattle.ringwal_c.specs.contracts.naming.ringwal_parse_segment_name as parse_segment_name
+use Rattle.ringwal_c.specs.contracts.house_records.ringwal_segment_at as segment_at
+use Rattle.ringwal_c.specs.contracts.house_records.ringwal_put_segment as put_segment
 use Rattle.ringwal_c.specs.contracts.house_records.ringwal_entry_at as entry_at
-use Rattle.ringwal_c.specs.contracts.house_records.ringwal_transaction_at as transaction-at
+use Rattle.ringwal_c.specs.contracts.house_records.ringwal_transaction_at as transaction_at
 use Rattle.ringwal_c.specs.contracts.house_records.ringwal_row_at as row_at
 use Rattle.ringwal_c.specs.contracts.house_records.ringwal_find as find
 use Rattle.ringwal_c.specs.contracts.decoding.ringwal_decode as decode
@@ -48,7 +48,7 @@ module _ {M : Type 1} {𝓤 : Ura M} (𝓛 : Logic 𝓤) (mem : Memory → SProp
   pub new_determined : Determined new.ended (new.clauses 𝓛 mem run)
   new_determined κs a g r r' ws ws' = told 𝓤 (λ p q. (p ∙ sym q, refl))
 
-  pub with_default_size_determined : Determined with-default-size.ended (with-default-size.clauses 𝓛 mem run)
+  pub with_default_size_determined : Determined with_default_size.ended (with_default_size.clauses 𝓛 mem run)
   with_default_size_determined κs a g r r' ws ws' = told 𝓤 (λ p q. (p ∙ sym q, refl))
 
   pub open_determined : Determined opening.ended (opening.clauses 𝓛 mem run)
@@ -57,46 +57,46 @@ module _ {M : Type 1} {𝓤 : Ura M} (𝓛 : Logic 𝓤) (mem : Memory → SProp
   pub rotate_determined : Determined rotate.ended (rotate.clauses 𝓛 mem run)
   rotate_determined κs a g r r' ws ws' = told 𝓤 (λ p q. let e = p ∙ sym q in (λ i. (e i).answer, λ i. (tt, (tt, ((e i).directory, ((e i).used, tt))))))
 
-  pub append_entry_determined : Determined append-entry.ended (append-entry.clauses 𝓛 mem run)
+  pub append_entry_determined : Determined append_entry.ended (append_entry.clauses 𝓛 mem run)
   append_entry_determined κs a g r r' ws ws' = told 𝓤 (λ p q. let e = p ∙ sym q in (λ i. (e i).answer, λ i. (tt, ((e i).area, ((e i).directory, ((e i).used, (tt, (tt, tt))))))))
 
   pub append_determined : Determined append.ended (append.clauses 𝓛 mem run)
   append_determined κs a g r r' ws ws' = told 𝓤 (λ p q. let e = p ∙ sym q in (λ i. (e i).answer, λ i. (tt, ((e i).area, ((e i).directory, ((e i).used, (tt, (tt, (tt, (tt, (tt, (tt, (tt, tt)))))))))))))
 
-  pub append_in_place_determined : Determined append-in-place.ended (append-in-place.clauses 𝓛 mem run)
+  pub append_in_place_determined : Determined append_in_place.ended (append_in_place.clauses 𝓛 mem run)
   append_in_place_determined κs a g r r' ws ws' = told 𝓤 (λ p q. let e = p ∙ sym q in (λ i. (e i).answer, λ i. ((e i).writer, ((e i).area, ((e i).directory, ((e i).used, (tt, (tt, (tt, (tt, (tt, (tt, (tt, tt)))))))))))))
 
   pub recover_determined : Determined recover.ended (recover.clauses 𝓛 mem run)
   recover_determined κs a g r r' ws ws' = told 𝓤 (λ p q. let e = p ∙ sym q in (λ i. (e i).answer, λ i. (tt, (tt, (tt, ((e i).entries, ((e i).transactions, tt)))))))
 
-  pub recover_into_store_determined : Determined recover-into-store.ended (recover-into-store.clauses 𝓛 mem run)
+  pub recover_into_store_determined : Determined recover_into_store.ended (recover_into_store.clauses 𝓛 mem run)
   recover_into_store_determined κs a g r r' ws ws' = told 𝓤 (λ p q. let e = p ∙ sym q in (λ i. (e i).answer, λ i. (tt, (tt, (tt, ((e i).entries, ((e i).transactions, ((e i).table, tt))))))))
 
-  pub read_checkpoint_determined : Determined read-checkpoint.ended (read-checkpoint.clauses 𝓛 mem run)
+  pub read_checkpoint_determined : Determined read_checkpoint.ended (read_checkpoint.clauses 𝓛 mem run)
   read_checkpoint_determined κs a g r r' ws ws' = told 𝓤 (λ p q. (p ∙ sym q, refl))
 
   pub checkpoint_determined : Determined checkpoint.ended (checkpoint.clauses 𝓛 mem run)
   checkpoint_determined κs a g r r' ws ws' = told 𝓤 (λ p q. let e = p ∙ sym q in (λ i. (e i).answer, λ i. (tt, (tt, (tt, ((e i).entries, ((e i).transactions, (tt, ((e i).target, tt)))))))))
 
-  pub truncate_segments_before_determined : Determined truncate-segments-before.ended (truncate-segments-before.clauses 𝓛 mem run)
+  pub truncate_segments_before_determined : Determined truncate_segments_before.ended (truncate_segments_before.clauses 𝓛 mem run)
   truncate_segments_before_determined κs a g r r' ws ws' = told 𝓤 (λ p q. let e = p ∙ sym q in (λ i. (e i).answer, λ i. (tt, ((e i).directory, ((e i).used, (tt, tt))))))
 
-  pub segment_name_determined : Determined segment-name.ended (segment-name.clauses 𝓛 mem run)
+  pub segment_name_determined : Determined segment_name.ended (segment_name.clauses 𝓛 mem run)
   segment_name_determined κs a g r r' ws ws' = told 𝓤 (λ p q. let e = p ∙ sym q in (λ i. (e i).answer, λ i. (tt, ((e i).target, tt))))
 
-  pub parse_segment_name_determined : Determined parse-segment-name.ended (parse-segment-name.clauses 𝓛 mem run)
+  pub parse_segment_name_determined : Determined parse_segment_name.ended (parse_segment_name.clauses 𝓛 mem run)
   parse_segment_name_determined κs a g r r' ws ws' = told 𝓤 (λ p q. (p ∙ sym q, refl))
 
-  pub segment_at_determined : Determined segment-at.ended (segment-at.clauses 𝓛 mem run)
+  pub segment_at_determined : Determined segment_at.ended (segment_at.clauses 𝓛 mem run)
   segment_at_determined κs a g r r' ws ws' = told 𝓤 (λ p q. (p ∙ sym q, refl))
 
-  pub put_segment_determined : Determined put-segment.ended (put-segment.clauses 𝓛 mem run)
+  pub put_segment_determined : Determined put_segment.ended (put_segment.clauses 𝓛 mem run)
   put_segment_determined κs a g r r' ws ws' = told 𝓤 (λ p q. (refl, λ i. ((p ∙ sym q) i, (tt, (tt, tt)))))
 
   pub entry_at_determined : Determined entry_at.ended (entry_at.clauses 𝓛 mem run)
   entry_at_determined κs a g r r' ws ws' = told 𝓤 (λ p q. (p ∙ sym q, refl))
 
-  pub transaction_at_determined : Determined transaction-at.ended (transaction-at.clauses 𝓛 mem run)
+  pub transaction_at_determined : Determined transaction_at.ended (transaction_at.clauses 𝓛 mem run)
   transaction_at_determined κs a g r r' ws ws' = told 𝓤 (λ p q. (p ∙ sym q, refl))
 
   pub row_at_determined : Determined row_at.ended (row_at.clauses 𝓛 mem run)

@@ -24,7 +24,7 @@ unfolding walked_at
 returns-in_default c =
     let l = c.loop-count in
     let w = c.walk_at-walked in
-    let n = not_entry w.result.step c.in_default.keys2 in
+    let n = not_entry w.result.step c.in_default.not-Entry in
     counting_ends _ l.at l.count l.invariant (ap (λ (v : Walked). is_entry v.step) (sym w.ensures) ∙ n)
 
 -- what stands at the offset, and where the walk goes on

@@ -11,7 +11,7 @@ use Rattle.ringwal.proofs.walker.offset_after.Goals as goal
 pub returns-in_default : goal.returns-in_default
 returns-in_default c =
     let a = c.args in
-    sym (offset_stays a.step a.at (not_entry a.step c.in_default.keys2))
+    sym (offset_stays a.step a.at (not_entry a.step c.in_default.not-Entry))
 
 pub overflow_add-result : goal.overflow_add-result
 overflow_add-result c =

@@ -6,9 +6,5 @@ use Rattle.ringwal_c.specs.Checkpoints.{truncate_for}
 use borrow.Author.Rules.{rules}
 use Rattle.ringwal_c.proofs.checkpoints.ringwal_truncate_segments_before.Goals as goal
 
-  statement,
-}
-use Rattle.ringwal_c.proofs.checkpoints.ringwal_truncate_segments_before.Tie as tie
-
 pub returns : goal.returns
 returns c = rw (c.truncate_answer.ensures.answer, c.truncate_answer.ensures.used) (ap (λ (below : Truncating). truncate_for below c.args.used.now) c.truncate_segments_before-truncated.ensures)
