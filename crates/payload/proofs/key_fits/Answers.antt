@@ -3,7 +3,6 @@
 use borrow.Author.Tests.{lt-leb, le-leb}
 use Rattle.payload.specs.Content.{key_fits}
 use lib.ListN.{length}
-use borrow.Author.Rules.{rules}
 use Rattle.payload.proofs.key_fits.Goals as goal
 
 pub returns-then-key-gt-KEY_MOST : goal.returns-then-key-gt-KEY_MOST

@@ -1,10 +1,9 @@
 -- `put_fixed` meets its contract: three fields, one behind the other.
 -- Assumes nothing.
 use Rattle.payload.proofs.Laws.{fixed_stored}
-use borrow.Author.Rules.{rules}
 use Rattle.payload.proofs.put_fixed.Goals as goal
 
 pub returns : goal.returns
 returns c =
     let a = c.args in
-    cc (fixed_stored a.target.now a.kind a.tx-id a.timestamp)
+    cc (fixed_stored a.target.now a.kind a.tx_id a.timestamp)

@@ -1,7 +1,6 @@
 -- `put_marker` meets its contract.
 -- Assumes nothing.
 use Rattle.payload.proofs.Laws.{length_fixed, stored_fixed, put_all, put_nothing}
-use borrow.Author.Rules.{rules}
 use Rattle.payload.proofs.put_marker.Goals as goal
 
 pub returns-then-target-lt-FIXED : goal.returns-then-target-lt-FIXED
@@ -10,5 +9,5 @@ returns-then-target-lt-FIXED c = put_nothing _ _ (rw length_fixed c.if-target-lt
 pub returns : goal.returns
 returns c =
     let a = c.args in
-    put_all _ _ _ _ (stored_fixed a.kind a.tx-id a.timestamp c.put_fixed.ensures)
+    put_all _ _ _ _ (stored_fixed a.kind a.tx_id a.timestamp c.put_fixed.ensures)
     (rw length_fixed c.if-target-lt-FIXED.false)

@@ -2,7 +2,6 @@
 -- Assumes nothing.
 use Rattle.payload.proofs.Laws.{length_part, part_stored}
 use native.Mathlib.Omega.{arith}
-use borrow.Author.Rules.{rules}
 use Rattle.payload.proofs.put_part.Goals as goal
 
 pub returns : goal.returns

@@ -4,7 +4,6 @@ use Rattle.payload.proofs.Laws.{length_fixed, length_part, stored_fixed, stored_
 use mathlib.Core.List.{append_assoc}
 use lib.ListN.{length-append}
 use native.Mathlib.Omega.{arith}
-use borrow.Author.Rules.{rules}
 use Rattle.payload.proofs.put_three.Goals as goal
 
 pub returns-then-target-n : goal.returns-then-target-n
@@ -21,7 +20,7 @@ put_part-requires c =
 pub returns : goal.returns
 returns c =
     let a = c.args in
-    let fixed = stored_fixed a.kind a.tx-id a.timestamp c.put_fixed.ensures in
+    let fixed = stored_fixed a.kind a.tx_id a.timestamp c.put_fixed.ensures in
     rw (← append_assoc, ← append_assoc)
     (put_all _ _ _ _
     (stored_part (stored_part (stored_part fixed c.put_part-at.ensures) c.put_part-at-2.ensures) c.put_part.ensures)

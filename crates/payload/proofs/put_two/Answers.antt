@@ -4,7 +4,6 @@ use Rattle.payload.proofs.Laws.{length_fixed, length_part, stored_fixed, stored_
 use mathlib.Core.List.{append_assoc}
 use lib.ListN.{length-append}
 use native.Mathlib.Omega.{arith}
-use borrow.Author.Rules.{rules}
 use Rattle.payload.proofs.put_two.Goals as goal
 
 pub returns-then-target-n : goal.returns-then-target-n
@@ -18,5 +17,5 @@ returns c =
     let a = c.args in
     rw (← append_assoc)
     (put_all _ _ _ _
-    (stored_part (stored_part (stored_fixed a.kind a.tx-id a.timestamp c.put_fixed.ensures) c.put_part-at.ensures) c.put_part.ensures)
+    (stored_part (stored_part (stored_fixed a.kind a.tx_id a.timestamp c.put_fixed.ensures) c.put_part-at.ensures) c.put_part.ensures)
     (simp (length-append, length_fixed, length_part) (omega arith)))

@@ -7,7 +7,6 @@ use native.Mathlib.Omega.{arith}
 use Rattle.payload.specs.Kind.{by_kind}
 use Rattle.payload.specs.Content.{well_formed, value_fits}
 use Rattle.payload.specs.Encode.{asked}
-use borrow.Author.Rules.{rules}
 use Rattle.payload.proofs.well_formed.Goals as goal
 
 pub returns-then-key_fits : goal.returns-then-key_fits

@@ -3,7 +3,6 @@
 use mathlib.Core.Path.{ap}
 use lib.ListN.{length}
 use Rattle.header.specs.Header.{header_of}
-use borrow.Author.Rules.{rules}
 use Rattle.header.proofs.WalEntryHeader.new.Goals as goal
 
 pub returns : goal.returns

@@ -3,7 +3,6 @@
 use Rattle.fields.proofs.Numbers.{num_below}
 use Rattle.header.specs.Header.{header_at}
 use native.Mathlib.Omega.{arith}
-use borrow.Author.Rules.{rules}
 use Rattle.header.proofs.WalEntryHeader.read.Goals as goal
 
 pub overflow_cast-result : goal.overflow_cast-result

@@ -1,7 +1,6 @@
 -- `WalEntryHeader::to_bytes` meets its contract: three fields, one behind the other.
 -- Assumes nothing.
 use Rattle.header.proofs.Laws.{header_stored}
-use borrow.Author.Rules.{rules}
 use Rattle.header.proofs.WalEntryHeader.to_bytes.Goals as goal
 
 pub returns : goal.returns

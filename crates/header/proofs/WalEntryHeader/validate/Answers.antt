@@ -3,7 +3,6 @@
 use mathlib.Core.Path.{ap}
 use lib.Dec.{eqb}
 use Rattle.header.specs.Header.{valid_for}
-use borrow.Author.Rules.{rules}
 use Rattle.header.proofs.WalEntryHeader.validate.Goals as goal
 
 pub returns : goal.returns
