@@ -158,10 +158,10 @@ truncated_once = once truncated_as Truncates.Refused (λ (f : Freed). Truncates.
 abbrev set_back : Answer ℕ → Set
 set_back answer = by_answer answer (λ n. cond (eqb n 8) Sets.TooLong Sets.Full) Sets.Rows
 
-set_back_lem : (x : Set) → set_back (set_as x) ≡ x
-set_back_lem Sets.TooLong = refl
-set_back_lem Sets.Full = refl
-set_back_lem (Sets.Rows n) = refl
+set_is : (x : Set) → set_back (set_as x) ≡ x
+set_is Sets.TooLong = refl
+set_is Sets.Full = refl
+set_is (Sets.Rows n) = refl
 
 pub set_once : {x y : Set} → set_as x ≡ set_as y → x ≡ y
-set_once {x} {y} e = sym (set_back_lem x) ∙ (ap set_back e ∙ set_back_lem y)
+set_once {x} {y} e = sym (set_is x) ∙ (ap set_back e ∙ set_is y)
