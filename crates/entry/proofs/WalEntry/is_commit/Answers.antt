@@ -1,6 +1,5 @@
 -- `WalEntry::is_commit` meets its contract: by the kind.
 -- Assumes nothing.
-use borrow.Author.Rules.{rules}
 use Rattle.entry.proofs.WalEntry.is_commit.Goals as goal
 
 pub returns : goal.returns

@@ -2,7 +2,6 @@
 -- Assumes nothing.
 use mathlib.Core.Path.{sym, ap}
 use Rattle.entry.specs.Parts.{time_of}
-use borrow.Author.Rules.{rules}
 use Rattle.entry.proofs.WalEntry.timestamp.Goals as goal
 
 pub returns-in-Insert : goal.returns-in-Insert

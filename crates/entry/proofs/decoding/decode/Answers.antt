@@ -5,7 +5,6 @@ use borrow.Author.Tests.{le-leb, lt-leb}
 use Prim.Native.Nat.{◌<◌}
 use Rattle.payload.specs.Kind.{by_kind}
 use Rattle.entry.specs.Decode.{decode_of}
-use borrow.Author.Rules.{rules}
 use Rattle.payload.proofs.Laws.{by_other}
 use Rattle.entry.proofs.decoding.decode.Goals as goal
 
@@ -36,6 +35,5 @@ returns-in-4 c = rw (le-leb _ _ c.if-payload-lt-FIXED.false, ← c.get_le-kind.e
 pub returns-in_default : goal.returns-in_default
 unfolding decode_of
 returns-in_default c =
-    let n = c.in_default.rest in
-    let h : 4 < c.get_le-kind.result = omega (arith, n.1, n.0.1, n.0.0.1, n.0.0.0.1, n.0.0.0.0.1) in
+    let h : 4 < c.get_le-kind.result = omega arith in
     rw (le-leb _ _ c.if-payload-lt-FIXED.false, ← c.get_le-kind.ensures, by_other _ _ _ _ _ _ _ h)

@@ -4,7 +4,6 @@ use mathlib.Core.Path.{sym, ◌∙◌}
 use Rattle.entry.specs.Decode.{key_and_part}
 use Rattle.entry.proofs.Places.{pair_within}
 use native.Mathlib.Omega.{arith}
-use borrow.Author.Rules.{rules}
 use Rattle.entry.proofs.decoding.delete.Goals as goal
 
 pub returns-in_default : goal.returns-in_default

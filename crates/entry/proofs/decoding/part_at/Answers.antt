@@ -2,7 +2,6 @@
 -- Assumes nothing.
 use borrow.Author.Tests.{le-leb, lt-leb}
 use Rattle.entry.specs.Decode.{part_at}
-use borrow.Author.Rules.{rules}
 use Rattle.entry.proofs.decoding.part_at.Goals as goal
 
 pub returns-then-left-lt-LENGTH : goal.returns-then-left-lt-LENGTH

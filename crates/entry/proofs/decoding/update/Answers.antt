@@ -4,7 +4,6 @@ use mathlib.Core.Path.{sym, ◌∙◌}
 use Rattle.entry.specs.Decode.{update_at}
 use Rattle.entry.proofs.Places.{part_within, pair_within}
 use native.Mathlib.Omega.{arith}
-use borrow.Author.Rules.{rules}
 use Rattle.entry.proofs.decoding.update.Goals as goal
 
 pub returns-in_default : goal.returns-in_default
