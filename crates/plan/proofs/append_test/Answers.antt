@@ -2,7 +2,6 @@
 -- Assumes nothing.
 use borrow.Author.Tests.{eq-eqb, ne_eqb}
 use Rattle.plan.specs.Plan.{append_test_of}
-use borrow.Author.Rules.{rules}
 use Rattle.plan.proofs.append_test.Goals as goal
 
 pub returns-then-used-eq0 : goal.returns-then-used-eq0

@@ -5,7 +5,6 @@ use Prim.Native.Nat.{◌+◌, ◌-◌}
 use borrow.Author.Tests.{le-leb, lt-leb}
 use Rattle.directory.specs.Record.{end_of}
 use Rattle.plan.specs.Plan.{behind_of}
-use borrow.Author.Rules.{rules}
 use Rattle.plan.proofs.behind.Goals as goal
 
 pub returns-then-left-lt-HEADER : goal.returns-then-left-lt-HEADER

@@ -7,7 +7,6 @@ use Rattle.directory.specs.Record.{end_of}
 use Rattle.directory.specs.Rule.{after_record}
 use Rattle.plan.specs.Plan.{last_in}
 use Rattle.plan.proofs.Plans.{last_in_lem}
-use borrow.Author.Rules.{rules}
 use Rattle.plan.proofs.last_used.Goals as goal
 
 pub returns-then-used-eq0 : goal.returns-then-used-eq0

@@ -3,7 +3,6 @@
 use mathlib.Core.Path.{ap, sym, ◌∙◌}
 use Rattle.directory.specs.Rule.{tested_as}
 use Rattle.plan.specs.Plan.{new_segment_of}
-use borrow.Author.Rules.{rules}
 use Rattle.plan.proofs.new_segment.Goals as goal
 
 pub last_used-requires : goal.last_used-requires

@@ -3,7 +3,6 @@
 use mathlib.Core.Path.{sym, ◌∙◌}
 use borrow.Author.Tests.{le-leb, lt-leb}
 use Rattle.plan.specs.Plan.{next_of}
-use borrow.Author.Rules.{rules}
 use Rattle.plan.proofs.next.Goals as goal
 
 pub returns-then-no_next_id : goal.returns-then-no_next_id

@@ -4,7 +4,6 @@ use mathlib.Core.Path.{ap, sym, ◌∙◌}
 use Rattle.directory.specs.Rule.{tested_as}
 use Rattle.plan.specs.Plan.{plan_append_of}
 use Rattle.plan.proofs.Plans.{test_says}
-use borrow.Author.Rules.{rules}
 use Rattle.plan.proofs.plan_append.Goals as goal
 
 pub plan_tested-requires : goal.plan_tested-requires

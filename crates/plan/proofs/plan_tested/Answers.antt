@@ -6,7 +6,6 @@ use borrow.Author.Tests.{le-leb, lt-leb}
 use Rattle.directory.specs.Record.{end_of}
 use Rattle.plan.specs.Plan.{new_segment_as, plan_of}
 use Rattle.plan.proofs.Plans.{last_in_lem, new_end}
-use borrow.Author.Rules.{rules}
 use Rattle.plan.proofs.plan_tested.Goals as goal
 
 pub behind-requires : goal.behind-requires

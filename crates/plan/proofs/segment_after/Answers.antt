@@ -4,7 +4,6 @@ use mathlib.Core.Path.{ap, sym, ◌∙◌}
 use native.Mathlib.Omega.{arith}
 use Rattle.fields.proofs.Cases.{tests}
 use Rattle.plan.specs.Plan.{new_segment, no_next_id}
-use borrow.Author.Rules.{rules}
 use Rattle.plan.proofs.segment_after.Goals as goal
 
 pub overflow_add-result : goal.overflow_add-result

@@ -1,6 +1,5 @@
 -- `not_well_formed` meets its contract: by what the test says.
 -- Assumes nothing.
-use Rattle.std.proofs.Common.{rules}
 use Rattle.segment.proofs.not_well_formed.Goals as goal
 
 pub returns-in-Refused : goal.returns-in-Refused

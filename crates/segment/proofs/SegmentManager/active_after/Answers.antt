@@ -1,6 +1,5 @@
 -- `SegmentManager::active_after` meets its contract.
 -- Assumes nothing.
-use Rattle.std.proofs.Common.{rules}
 use Rattle.segment.proofs.SegmentManager.active_after.Goals as goal
 
 pub returns-then-rotated : goal.returns-then-rotated

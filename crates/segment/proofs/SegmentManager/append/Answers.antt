@@ -1,6 +1,6 @@
 -- `SegmentManager::append` meets its contract: by what `encode` answers.
 -- Assumes nothing.
-use Rattle.std.proofs.Common.{sym, ◌∙◌, arith, length-take-le, rules}
+use Rattle.std.proofs.Common.{sym, ◌∙◌, arith, length-take-le}
 use Rattle.segment.proofs.Logs.{encode_says, encode_refuses, entry_written, entry_not_written}
 use Rattle.segment.proofs.SegmentManager.append.Goals as goal
 

@@ -1,6 +1,6 @@
 -- `SegmentManager::append_entry` meets its contract: refused or written, as the plan says.
 -- Assumes nothing.
-use Rattle.std.proofs.Common.{sym, ap, ◌∙◌, rules}
+use Rattle.std.proofs.Common.{sym, ap, ◌∙◌}
 use Rattle.plan.proofs.Plans.{append_fits}
 use Rattle.plan.specs.Plan.{planned_as}
 use Rattle.segment.specs.Writing.{append_entry_of}

@@ -1,6 +1,6 @@
 -- `SegmentManager::counted` meets its contract.
 -- Assumes nothing.
-use Rattle.std.proofs.Common.{rules, eq-eqb, ne_eqb}
+use Rattle.std.proofs.Common.{eq-eqb, ne_eqb}
 use Rattle.segment.specs.Writing.{counted}
 use Rattle.segment.proofs.SegmentManager.counted.Goals as goal
 

@@ -1,6 +1,6 @@
 -- `open` meets its contract: what the plan refuses changes nothing, else its record is stored.
 -- Assumes nothing.
-use Rattle.std.proofs.Common.{sym, ap, ◌∙◌, arith, rules}
+use Rattle.std.proofs.Common.{sym, ap, ◌∙◌, arith}
 use Rattle.segment.specs.Writing.{open_of}
 use Rattle.plan.specs.Plan.{new_segment_as}
 use Rattle.plan.proofs.Plans.{open_says}

@@ -1,7 +1,6 @@
 -- `rotate` meets its contract: it opens.
 -- Assumes nothing.
 use Rattle.segment.specs.Writing.{open_of, rotate_of}
-use Rattle.std.proofs.Common.{rules}
 use Rattle.segment.proofs.SegmentManager.rotate.Goals as goal
 
 pub returns : goal.returns

@@ -1,9 +1,7 @@
 -- `SegmentManager::write` meets its contract: header and payload one behind the other are the entry.
 -- Assumes nothing.
 use Rattle.segment.proofs.Logs.{entry_stored}
-use Rattle.std.proofs.Common.{rules}
 use Rattle.segment.proofs.SegmentManager.write.Goals as goal
-
 
 pub returns : goal.returns
 returns c =
