@@ -16,9 +16,8 @@ PART = r'(?:«[^»]*»|[^\s(){}.;,@"«»]+)'
 WORD = re.compile(rf'"(?:\\.|[^"\\])*"|\.?{PART}(?:\.{PART})*|[(){{}}.;,@]')
 MARKS = {'unfoldable', 'abbrev', 'axiom', 'pub'}
 SYNTAX = set(': = → × ↔ λ ∀ _ | let in unfold record Type where'.split())
-# What is open in every file without a `use`, and what a clause is lent beside it.
-OPEN = set('Unit tt ⊥ absurd ¬ refl Dec yes no Path Id'.split())
-LENT = OPEN | set('now ⌜ ⌝'.split())
+# What is open in every file without a `use`.
+OPEN = set('Unit tt ⊥ absurd ¬'.split())
 PRIMITIVE = set('u8 u16 u32 u64 usize i8 i16 i32 i64 isize bool f32 f64'.split())
 RUST_WORD = re.compile(r"(?<!['\w])\b([A-Za-z_]\w*(?:::\w+)*)\b(?!\s*:)")
 RUST_SYNTAX = set('pub crate struct enum type const mut as'.split())
@@ -40,8 +39,8 @@ def is_name(word):
 
 
 def spellings(name):
-    """A name is written as it is; an operator also by its parts, `++` for `_++_`. What stands in « » is one name."""
-    parts = [] if name.startswith('«') else name.split('_')
+    """A name is written as it is; an operator also by its parts, `++` for `◌++◌`. What stands in « » is one name."""
+    parts = [] if name.startswith('«') else name.split('◌')
     return {name, *filter(None, parts)}
 
 
@@ -97,19 +96,19 @@ def is_label(words, i):
 @cache
 def target(path, name):
     """What a module has under a name."""
-    owner = re.fullmatch(r'Rattle·(\w+?)(?:·specs|·proofs)?', path[0])
-    if not owner or owner[1] not in crates():
+    if path[0] != 'Rattle' or path[1] not in crates():
         return Meaning(Kit('.'.join(path), name), True)
-    if path[1:3] == ('specs', 'declared'):
-        return declared_target(owner[1], path[3:], name)
-    file = ROOT.joinpath('crates', owner[1], *path[1:]).with_suffix('.antt')
+    crate = path[1]
+    if path[2:4] == ('specs', 'declared'):
+        return declared_target(crate, path[4:], name)
+    file = ROOT.joinpath('crates', *path[1:]).with_suffix('.antt')
     if not file.exists():
         fail('.'.join(path), f'there is no {file.relative_to(ROOT)} to look for {name}')
     return antt_file(file).exported(name)
 
 
 def declared_target(crate, path, name):
-    variants = path[-1] == 'the-variants'
+    variants = path[-1] == 'TheVariants'
     found = lookup(module(crate), path[:-1] if variants else path)
     if not found or name not in (variants_of(found) if variants else [found.name]):
         fail('.'.join(path), f'{crate} declares no {name} there')
@@ -143,14 +142,14 @@ class Scope:
             return target(self.modules[head], rest[0])
         return Meaning(found.thing, True) if found and rest else found
 
-    def cited(self, names, line, open_names=OPEN):
+    def cited(self, names, line):
         """The names, each with the thing that it means. A name that means nothing ends the run."""
         for word in names:
             found = self.meaning(word, line)
             if found:
                 yield word, found.thing
-            elif word in open_names:
-                yield word, Kit('Prim' if word in OPEN else 'lent to a clause', word)
+            elif word in OPEN:
+                yield word, Kit('Prim', word)
             elif word not in SYNTAX and not word[0].isdigit():
                 fail(f'{self.shown}:{line}', f'`{word}` is no name that is known here')
 

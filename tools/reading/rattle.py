@@ -11,7 +11,9 @@ ROOT = Path(__file__).resolve().parents[2]
 HIDDEN = re.compile(r"""//[^\n]*|/\*.*?\*/|(?<!\S)--[^\n]*|"(?:\\.|[^"\\])*"|'(?:\\.[^'\n]*|[^'\\\n])'""", re.S)
 
 FUNCTION = re.compile(r'\b(pub\s+)?(?:(?:const|unsafe|extern)\s+)*fn\s+(\w+)')
-HEADER = re.compile(r'\b(requires|ensures)\s*\{|[{(\[;]')
+# A clause may have a name, as `ensures below { .. }`.
+HEADER = re.compile(r'\b(requires|ensures)\s+(?:\w+\s*)?\{|[{(\[;]')
+CLAUSE = re.compile(r'\b(?:ghost|requires|ensures)\b')
 BLOCK = re.compile(r'\b(?:impl(?:\s*<[^>]*>)?|mod)\s+(\w+)[^{;]*\{')
 DECLARED = re.compile(r'^(?:pub(?:\([^)]*\))?\s+)?(struct|enum|type|const)\s+(\w+)', re.M)
 USE = re.compile(r'^(ghost\s+|pub(?:\([^)]*\))?\s+)?use\s+([^;]*);', re.M)
@@ -46,8 +48,8 @@ def closing(text, at):
 @cache
 def crates():
     """The crates of crates.txt, in its order."""
-    lines = text_of(ROOT / 'crates.txt').splitlines()
-    return [line.split(':')[0].split()[0] for line in lines if ':' in line.split('#')[0]]
+    lines = [line.split('#')[0] for line in text_of(ROOT / 'crates.txt').splitlines()]
+    return [line.split(':')[0].split()[0] for line in lines if line.strip()]
 
 
 @cache
@@ -138,8 +140,11 @@ class RtFile:
             at = closing(self.bare, part.end() - 1) + 1
             if part[1]:
                 clauses.append(Clause(part[1], part.start(), at))
+        place = f'{self.shown}:{self.line_of(found.start())}'
         if part is None:
-            fail(f'{self.shown}:{self.line_of(found.start())}', f'{found[2]} has no body')
+            fail(place, f'{found[2]} has no body')
+        if CLAUSE.search(self.bare, at, part.start()):
+            fail(place, f'{found[2]} has a clause of a form that is not followed')
         around = [name for name, start, end in self.blocks if start < found.start() < end]
         path = (self.crate, *self.module, *around, found[2])
         return Function(self, path, bool(found[1]), found.start(), part.start(), clauses)
