@@ -1,7 +1,5 @@
 -- `chains::chain::link` meets its contract. The invariant: the entries that are left, linked in the lists as they stand, are
 use mathlib.Core.Path.{◌≡◌, refl, ◌∙◌}
-use Prim.Native.Nat.{◌≤◌}
-use lib.ListN.{length}
 use native.Mathlib.Omega.{arith}
 use Rattle.chains.specs.Link.{lent, link_all}
 use Rattle.chains.proofs.Turns.{link_turn}

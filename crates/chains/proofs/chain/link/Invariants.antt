@@ -1,12 +1,10 @@
 -- `chains::chain::link` meets its contract. The invariant: the entries that are left, linked in the lists as they stand, are
 -- all of them linked in the lists at entry.
 -- Assumes nothing.
-use mathlib.Core.Path.{◌≡◌, refl, ◌∙◌}
+use mathlib.Core.Path.{◌≡◌}
 use Prim.Native.Nat.{◌≤◌}
 use lib.ListN.{length}
-use native.Mathlib.Omega.{arith}
 use Rattle.chains.specs.Link.{lent, link_all}
-use Rattle.chains.proofs.Turns.{link_turn}
 use Rattle.chains.proofs.chain.link.Given as goal
 
 abbrev pub invariant-loop-k : goal.invariant-loop-k

@@ -1,7 +1,6 @@
 -- `chains::chain::link_one` meets its contract: by what was found.
 -- Assumes nothing.
 use Rattle.chains.specs.Link.{link_one}
-use borrow.Author.Rules.{rules}
 use Rattle.chains.proofs.chain.link_one.Goals as goal
 
 pub returns-in-At : goal.returns-in-At

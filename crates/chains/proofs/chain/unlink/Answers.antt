@@ -1,6 +1,5 @@
 -- `chains::chain::unlink` meets its contract: both lists, one after the other.
 -- Assumes nothing.
-use borrow.Author.Rules.{rules}
 use Rattle.chains.proofs.chain.unlink.Goals as goal
 
 pub returns : goal.returns

@@ -1,8 +1,6 @@
 -- `chains::chain::unlink_list` meets its contract. The invariant: the links that are left, taken out of the list as it
 use mathlib.Core.Path.{◌≡◌, refl, ◌∙◌}
-use lib.ListN.{length}
 use native.Mathlib.Omega.{arith}
-use borrow.Author.Rules.{rules}
 use Rattle.chains.proofs.Turns.{unlink_turn}
 use Rattle.chains.specs.Link.{unlink_all}
 use Rattle.chains.proofs.chain.unlink_list.Goals as goal

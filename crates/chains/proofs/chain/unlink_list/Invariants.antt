@@ -1,11 +1,8 @@
 -- `chains::chain::unlink_list` meets its contract. The invariant: the links that are left, taken out of the list as it
 -- stands, are all taken out of the list at entry.
 -- Assumes nothing.
-use mathlib.Core.Path.{◌≡◌, refl, ◌∙◌}
+use mathlib.Core.Path.{◌≡◌}
 use lib.ListN.{length}
-use native.Mathlib.Omega.{arith}
-use borrow.Author.Rules.{rules}
-use Rattle.chains.proofs.Turns.{unlink_turn}
 use Rattle.chains.specs.Link.{unlink_all}
 use Rattle.chains.proofs.chain.unlink_list.Given as goal
 

@@ -2,7 +2,6 @@
 -- Assumes nothing.
 use mathlib.Core.Path.{◌∙◌}
 use Rattle.chains.proofs.Places.{spare_put}
-use borrow.Author.Rules.{rules}
 use Rattle.chains.proofs.links.put_spare.Goals as goal
 
 pub returns : goal.returns

@@ -1,6 +1,6 @@
 -- `lists::admit::admit` meets its contract: an entry that has no record changes nothing, else it is listed and noted.
 -- Assumes nothing.
-use Rattle.std.proofs.Common.{rules, le-leb}
+use Rattle.std.proofs.Common.{le-leb}
 use borrow.Author.Tests.{lt-leb}
 use Rattle.lists.specs.Admit.{admit_of}
 use Rattle.lists.proofs.admit.admit.Goals as goal

@@ -1,6 +1,6 @@
 -- `lists::admit::begin_at` meets its contract: the records behind make room, and the new one is written.
 -- Assumes nothing.
-use Rattle.std.proofs.Common.{◌∙◌, arith, rules, le-leb}
+use Rattle.std.proofs.Common.{◌∙◌, arith, le-leb}
 use borrow.Author.Tests.{lt-leb}
 use Rattle.records.proofs.Dense.{made_room}
 use Rattle.lists.specs.Admit.{begin_of}

@@ -1,7 +1,6 @@
 -- `lists::admit::begun` meets its contract.
 -- Assumes nothing.
 use Rattle.lists.specs.Transactions.{begun}
-use Rattle.std.proofs.Common.{rules}
 use Rattle.lists.proofs.admit.begun.Goals as goal
 
 pub returns : goal.returns

@@ -1,6 +1,5 @@
 -- `marker` meets its contract: its cases are those of the definition.
 -- Assumes nothing.
-use Rattle.std.proofs.Common.{ne_eqb}
 use Rattle.lists.proofs.admit.marker.Goals as goal
 
 pub returns-in-3 : goal.returns-in-3
@@ -8,4 +7,3 @@ returns-in-3 c = rw c.in-3.is
 
 pub returns-in-4 : goal.returns-in-4
 returns-in-4 c = rw c.in-4.is
-

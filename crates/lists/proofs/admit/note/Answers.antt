@@ -1,6 +1,6 @@
 -- `lists::admit::note` meets its contract: by what was found.
 -- Assumes nothing.
-use Rattle.std.proofs.Common.{sym, ◌∙◌, arith, rules}
+use Rattle.std.proofs.Common.{sym, ◌∙◌, arith}
 use Rattle.records.proofs.Halving.{halve_within_gap}
 use Rattle.lists.specs.Admit.{note_of}
 use Rattle.lists.proofs.admit.note.Goals as goal

@@ -1,6 +1,5 @@
 -- `lists::admit::note_at` meets its contract: what is written are the bytes of the changed record.
 -- Assumes nothing.
-use Rattle.std.proofs.Common.{rules}
 use Rattle.lists.proofs.admit.note_at.Goals as goal
 
 pub returns : goal.returns

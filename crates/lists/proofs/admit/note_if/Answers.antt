@@ -1,6 +1,5 @@
 -- `lists::admit::note_if` meets its contract: by which list is full.
 -- Assumes nothing.
-use Rattle.std.proofs.Common.{rules}
 use Rattle.lists.proofs.admit.note_if.Goals as goal
 
 pub returns-in-Room : goal.returns-in-Room

@@ -1,6 +1,6 @@
 -- `lists::admit::noted` meets its contract: its marker, or else the action it had; and one more, if it is no marker.
 -- Assumes nothing.
-use Rattle.std.proofs.Common.{◌∙◌, rules}
+use Rattle.std.proofs.Common.{◌∙◌}
 use Rattle.lists.specs.Transactions.{noted}
 use Rattle.lists.proofs.TransactionRecords.{some_more}
 use Rattle.lists.proofs.admit.noted.Goals as goal

@@ -1,6 +1,6 @@
 -- `lists::entries::entry_at` meets its contract: the four fields are those of the record at the offset.
 -- Assumes nothing.
-use Rattle.std.proofs.Common.{◌+◌, ◌*◌, arith, rules}
+use Rattle.std.proofs.Common.{◌+◌, ◌*◌, arith}
 use Rattle.fields.proofs.Numbers.{num_below}
 use Rattle.lists.proofs.EntryRecords.{entry_is, entry_past}
 use Rattle.lists.proofs.entries.entry_at.Goals as goal

@@ -1,6 +1,6 @@
 -- `lists::entries::put_entry` meets its contract: four numbers one after the other are the record.
 -- Assumes nothing.
-use Rattle.std.proofs.Common.{◌*◌, sym, arith, rules}
+use Rattle.std.proofs.Common.{◌*◌, sym, arith}
 use Rattle.fields.proofs.Stores.{sets_out}
 use Rattle.lists.specs.Entries.{entry_record_bytes}
 use Rattle.lists.proofs.EntryRecords.{put_four}

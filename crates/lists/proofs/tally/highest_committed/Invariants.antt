@@ -1,10 +1,8 @@
 -- `lists::tally::highest_committed` meets its contract. The invariant: the highest so far is that of the records from k on.
 -- Assumes nothing.
-use Rattle.std.proofs.Common.{◌≡◌, ◌-◌, ◌≤◌, arith, rules}
+use Rattle.std.proofs.Common.{◌≡◌, ◌≤◌}
 use Rattle.lists.specs.Tally.{highest_committed}
-use Rattle.records.specs.Dense.{records_of}
-use Rattle.lists.proofs.Tallies.{from_to, highest_turn}
-use native.Mathlib.Nat.{sub-zero}
+use Rattle.lists.proofs.Tallies.{from_to}
 use Rattle.lists.proofs.tally.highest_committed.Given as goal
 
 abbrev pub invariant-loop-k : goal.invariant-loop-k

@@ -1,7 +1,7 @@
 -- `lists::transactions::find` meets its contract. The invariant: what halving finds in the range that is left is what it
-use Rattle.std.proofs.Common.{◌≡◌, ◌+◌, ◌/◌, ◌<◌, ◌≤◌, sym, refl, ◌∙◌, arith, rules}
+use Rattle.std.proofs.Common.{◌≡◌, ◌+◌, ◌/◌, ◌<◌, sym, refl, ◌∙◌, arith}
 use Rattle.fields.specs.declared.bytes.Ordering.TheVariants.{Less, Equal, Greater}
-use Rattle.records.specs.Halving.{halved, found_in}
+use Rattle.records.specs.Halving.{found_in}
 use Rattle.records.proofs.Sorted.{numbers_less, numbers_same, numbers_greater}
 use Rattle.records.proofs.Halving.{halve_none, halve_less, halve_equal, halve_greater}
 use Rattle.lists.specs.Admit.{order_in}

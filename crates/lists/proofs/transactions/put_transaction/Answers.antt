@@ -1,6 +1,6 @@
 -- `lists::transactions::put_transaction` meets its contract: three numbers one after the other are the record.
 -- Assumes nothing.
-use Rattle.std.proofs.Common.{◌*◌, sym, arith, rules}
+use Rattle.std.proofs.Common.{◌*◌, sym, arith}
 use Rattle.fields.proofs.Stores.{sets_out}
 use Rattle.lists.specs.Transactions.{transaction_bytes}
 use Rattle.lists.proofs.TransactionRecords.{put_three}

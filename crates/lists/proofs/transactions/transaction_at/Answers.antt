@@ -1,6 +1,6 @@
 -- `lists::transactions::transaction_at` meets its contract: the three fields are those of the record at the offset.
 -- Assumes nothing.
-use Rattle.std.proofs.Common.{◌+◌, ◌*◌, arith, rules}
+use Rattle.std.proofs.Common.{◌+◌, ◌*◌, arith}
 use Rattle.fields.proofs.Numbers.{num_below}
 use Rattle.lists.proofs.TransactionRecords.{transaction_read, transaction_past}
 use Rattle.lists.proofs.transactions.transaction_at.Goals as goal

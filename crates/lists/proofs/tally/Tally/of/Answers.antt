@@ -1,8 +1,8 @@
 -- `lists::Tally::of` meets its contract. The invariant: the tally so far is that of the records from k on.
-use Rattle.std.proofs.Common.{◌≡◌, ◌-◌, ◌≤◌, arith, rules}
+use Rattle.std.proofs.Common.{◌≡◌, ◌-◌, arith}
 use Rattle.lists.specs.Tally.{tally_of}
 use Rattle.records.specs.Dense.{records_of}
-use Rattle.lists.proofs.Tallies.{from_to, tally_turn, tally_below}
+use Rattle.lists.proofs.Tallies.{tally_turn, tally_below}
 use native.Mathlib.Nat.{sub-zero}
 use Rattle.lists.proofs.tally.Tally.of.Goals as goal
 

@@ -1,6 +1,5 @@
 -- `Tally::with` meets its contract.
 -- Assumes nothing.
-use Rattle.std.proofs.Common.{rules}
 use Rattle.lists.proofs.tally.Tally.with.Goals as goal
 
 pub returns-in-Commit : goal.returns-in-Commit

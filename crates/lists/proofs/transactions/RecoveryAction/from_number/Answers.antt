@@ -1,6 +1,5 @@
 -- `RecoveryAction::from_number` meets its contract: its cases are those of the definition.
 -- Assumes nothing.
-use Rattle.std.proofs.Common.{ne_eqb}
 use Rattle.lists.proofs.transactions.RecoveryAction.from_number.Goals as goal
 
 pub returns-in-1 : goal.returns-in-1
@@ -8,4 +7,3 @@ returns-in-1 c = rw c.in-1.is
 
 pub returns-in-2 : goal.returns-in-2
 returns-in-2 c = rw c.in-2.is
-
