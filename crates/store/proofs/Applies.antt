@@ -1,14 +1,14 @@
 -- An entry applied in bytes comes to what it does to the rows.
 -- Assumes nothing.
 use mathlib.Core.Path.{◌≡◌, refl}
-use mathlib.Core.List.{List, [], ◌∷◌}
+use mathlib.Core.List.{List}
 use Prim.Native.Nat.{ℕ, ◌+◌, ◌-◌, ◌/◌}
 use native.Mathlib.Omega.{arith}
 use lib.ListN.{length, take, drop}
 use Rattle.entry.specs.Decode.{decode_of, content_at}
 use Rattle.std.proofs.Common.{◌⊎◌, inl, inr}
 use Rattle.entry.specs.declared.WalEntry.{WalEntry}
-use Rattle.entry.specs.declared.WalEntry.TheVariants.{Insert, Update, Delete, Commit, Abort}
+use Rattle.entry.specs.declared.WalEntry.TheVariants.{Commit, Abort}
 use Rattle.entry.specs.declared.decoding.Decoded.TheVariants as Decodes
 use Rattle.refusal.specs.Answer.{accepted}
 use Rattle.refusal.proofs.Answers.{same_values}

@@ -1,7 +1,7 @@
 -- A run in bytes: its rows are read back off the table, and a part that stopped stops the whole.
 -- Assumes nothing.
 use mathlib.Core.Path.{◌≡◌, refl, sym, ap, ◌∙◌}
-use mathlib.Core.List.{List, [], ◌∷◌}
+use mathlib.Core.List.{List}
 use Prim.Native.Nat.{ℕ, ◌/◌}
 use lib.ListN.{length, replicate}
 use Rattle.refusal.specs.Answer.{Answer, refused, accepted, by_answer, and_then}

@@ -1,7 +1,6 @@
 -- `concluded` meets its contract: by the list that is full, if any.
 -- Assumes nothing.
 use Rattle.recovery.specs.Reach.{told_by, concluded_of}
-use borrow.Author.Rules.{rules}
 use Rattle.recovery.proofs.concluded.Goals as goal
 
 pub returns-in-Room : goal.returns-in-Room

@@ -1,8 +1,6 @@
 -- `lists_test` meets its contract: the lists are tested before the directory.
 -- Assumes nothing.
-use borrow.Author.Tests.{not-true, not-false}
 use Rattle.recovery.specs.Recover.{lists_test_of}
-use borrow.Author.Rules.{rules}
 use Rattle.recovery.proofs.lists_test.Goals as goal
 
 pub returns-then-not-fits : goal.returns-then-not-fits

@@ -2,7 +2,6 @@
 -- Assumes nothing.
 use borrow.Author.Tests.{eq-eqb, ne_eqb}
 use Rattle.recovery.specs.Recover.{next_of}
-use borrow.Author.Rules.{rules}
 use Rattle.recovery.proofs.next_number.Goals as goal
 
 pub returns-then-highest-eq0 : goal.returns-then-highest-eq0

@@ -4,7 +4,6 @@ use mathlib.Core.Path.{ap, sym, ◌∙◌}
 use Rattle.directory.specs.Rule.{tested_as}
 use Rattle.recovery.specs.Recover.{recover_of}
 use Rattle.recovery.proofs.Concludes.{lists_sound}
-use borrow.Author.Rules.{rules}
 use Rattle.recovery.proofs.recover.Goals as goal
 
 pub recover_tested-requires : goal.recover_tested-requires

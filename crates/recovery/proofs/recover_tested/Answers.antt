@@ -2,7 +2,6 @@
 -- Assumes nothing.
 use mathlib.Core.Path.{◌∙◌}
 use Rattle.recovery.proofs.Concludes.{recovers}
-use borrow.Author.Rules.{rules}
 use Rattle.recovery.proofs.recover_tested.Goals as goal
 
 pub returns : goal.returns

@@ -1,7 +1,6 @@
 -- `results` meets its contract: the counts and the next number of what was reached.
 -- Assumes nothing.
 use Rattle.recovery.specs.Reach.{told_by}
-use borrow.Author.Rules.{rules}
 use Rattle.recovery.proofs.results.Goals as goal
 
 pub returns : goal.returns

@@ -2,7 +2,6 @@
 -- Assumes nothing.
 use Rattle.records.proofs.Dense.{length_read}
 use Rattle.recovery.specs.Recover.{stats_of}
-use borrow.Author.Rules.{rules}
 use Rattle.recovery.proofs.stats.Goals as goal
 
 pub returns : goal.returns

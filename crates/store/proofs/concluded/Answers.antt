@@ -1,6 +1,5 @@
 -- `concluded` meets its contract: by what the run came to.
 -- Assumes nothing.
-use borrow.Author.Rules.{rules}
 use Rattle.store.proofs.concluded.Goals as goal
 
 pub returns-in-Rows : goal.returns-in-Rows

@@ -2,7 +2,6 @@
 -- Assumes nothing.
 use borrow.Author.Tests.{le-leb, lt-leb}
 use Rattle.store.specs.Replay.{table_after}
-use borrow.Author.Rules.{rules}
 use Rattle.store.proofs.leave_table.Goals as goal
 
 pub returns-then-number-gt2 : goal.returns-then-number-gt2

@@ -1,10 +1,8 @@
 -- `recover_into_store` meets its contract: refused by the table or by the recovery, or by what the run comes to.
 -- Assumes nothing.
 use mathlib.Core.Path.{◌∙◌}
-use borrow.Author.Tests.{not-true, not-false}
 use Rattle.store.specs.Replay.{replay_of}
 use Rattle.store.proofs.Replays.{accepted_lists, replays}
-use borrow.Author.Rules.{rules}
 use Rattle.store.proofs.recover_into_store.Goals as goal
 
 pub returns-then-not-fits : goal.returns-then-not-fits

@@ -1,6 +1,5 @@
 -- `refused_empty` meets its contract: both lists and the table are cleared.
 -- Assumes nothing.
-use borrow.Author.Rules.{rules}
 use Rattle.store.proofs.refused_empty.Goals as goal
 
 pub returns : goal.returns

@@ -7,7 +7,6 @@ use lib.ListN.{replicate}
 use lib.Seq.{length-take-le}
 use Rattle.chains.specs.Link.{Lent}
 use Rattle.store.proofs.Listings.{lent_linked, lent_ran, unlinked}
-use borrow.Author.Rules.{rules}
 use Rattle.store.proofs.replay.Goals as goal
 
 pub slice_bounds-apply_transactions-end-2 : goal.slice_bounds-apply_transactions-end-2

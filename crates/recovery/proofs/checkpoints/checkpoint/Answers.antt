@@ -9,7 +9,6 @@ use Rattle.refusal.specs.declared.Refusal.TheVariants.{NoNewCheckpoints}
 use Rattle.recovery.specs.Checkpoint.{advance_of, checkpoint_of}
 use Rattle.recovery.specs.declared.checkpoints.Checkpointed.TheVariants.{Refused, At}
 use Rattle.recovery.proofs.Accepts.{checkpoints}
-use borrow.Author.Rules.{rules}
 use Rattle.recovery.proofs.checkpoints.checkpoint.Goals as goal
 
 -- by whether the highest number exceeds the stored one

@@ -2,7 +2,6 @@
 -- Assumes nothing.
 use borrow.Author.Tests.{eq-eqb, ne_eqb}
 use Rattle.recovery.specs.Checkpoint.{checkpoint_at}
-use borrow.Author.Rules.{rules}
 use Rattle.recovery.proofs.checkpoints.read_checkpoint.Goals as goal
 
 pub returns-then-image-ne-SIZE : goal.returns-then-image-ne-SIZE

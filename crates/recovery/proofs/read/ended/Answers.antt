@@ -1,7 +1,6 @@
 -- `ended` meets its contract: by the step that ended the segment.
 -- Assumes nothing.
 use native.Mathlib.Nat.{add-zero}
-use borrow.Author.Rules.{rules}
 use Rattle.recovery.proofs.read.ended.Goals as goal
 
 pub returns-in-Entry : goal.returns-in-Entry

@@ -1,6 +1,5 @@
 -- `listed` meets its contract: what the entry says of itself.
 -- Assumes nothing.
-use borrow.Author.Rules.{rules}
 use Rattle.recovery.proofs.read.listed.Goals as goal
 
 pub returns : goal.returns

@@ -5,9 +5,7 @@ use native.Mathlib.Omega.{arith}
 use lib.ListN.{length, drop, length-take}
 use Rattle.directory.specs.Record.{end_of}
 use Rattle.directory.proofs.Sound.{sound_ends, sound_says}
-use Rattle.recovery.specs.Reach.{reached, unread}
-use Rattle.recovery.proofs.Reaches.{ReadingOn, reading_starts, reading_part, reading_ends}
-use borrow.Author.Rules.{rules}
+use Rattle.recovery.proofs.Reaches.{reading_starts, reading_part, reading_ends}
 use Rattle.recovery.proofs.read.read_log.Goals as goal
 
 pub loop-k-init : goal.loop-k-init

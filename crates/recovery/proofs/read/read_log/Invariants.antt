@@ -1,15 +1,9 @@
 -- `read_log` meets its contract. The invariant: what is left of the log, read into the lists as they stand, comes to the whole
 -- log read into the lists at entry.
 -- Assumes nothing.
-use mathlib.Core.Path.{refl}
-use Prim.Native.Nat.{◌+◌, ◌-◌, ◌<◌, ◌≤◌}
-use native.Mathlib.Omega.{arith}
-use lib.ListN.{length, drop, length-take}
-use Rattle.directory.specs.Record.{end_of}
-use Rattle.directory.proofs.Sound.{sound_ends, sound_says}
+use Prim.Native.Nat.{◌-◌, ◌≤◌}
 use Rattle.recovery.specs.Reach.{reached, unread}
-use Rattle.recovery.proofs.Reaches.{ReadingOn, reading_starts, reading_part, reading_ends}
-use borrow.Author.Rules.{rules}
+use Rattle.recovery.proofs.Reaches.{ReadingOn}
 use Rattle.recovery.proofs.read.read_log.Given as goal
 
 abbrev pub invariant-loop-k : goal.invariant-loop-k

@@ -1,16 +1,10 @@
 -- `read_segment_entries` meets its contract. The invariant: what is left of the segment, read into the lists as they stand,
-use mathlib.Core.Path.{◌≡◌, refl, sym, ◌∙◌}
-use Prim.Native.Nat.{◌-◌}
+use mathlib.Core.Path.{refl, sym, ◌∙◌}
 use native.Mathlib.Omega.{arith}
-use lib.ListN.{length}
-use Rattle.scan.specs.Step.{step_at}
 use Rattle.scan.specs.Read.{read_segment}
-use Rattle.scan.specs.declared.Step.TheVariants.{Entry}
-use Rattle.scan.proofs.Steps.{EntryAt, step_entry}
-use Rattle.recovery.specs.Reach.{reached}
-use Rattle.recovery.proofs.Reaches.{Going, with_lists, reach_ended, going_on}
+use Rattle.scan.proofs.Steps.{step_entry}
+use Rattle.recovery.proofs.Reaches.{reach_ended, going_on}
 use Rattle.recovery.proofs.Ends.{not_entry}
-use borrow.Author.Rules.{rules}
 use Rattle.recovery.proofs.read.read_segment_entries.Goals as goal
 
 pub loop-entry-init : goal.loop-entry-init

@@ -1,18 +1,10 @@
 -- `read_segment_entries` meets its contract. The invariant: what is left of the segment, read into the lists as they stand,
 -- comes to the whole segment read into the lists at entry.
 -- Assumes nothing.
-use mathlib.Core.Path.{◌≡◌, refl, sym, ◌∙◌}
 use Prim.Native.Nat.{◌-◌}
-use native.Mathlib.Omega.{arith}
 use lib.ListN.{length}
-use Rattle.scan.specs.Step.{step_at}
-use Rattle.scan.specs.Read.{read_segment}
-use Rattle.scan.specs.declared.Step.TheVariants.{Entry}
-use Rattle.scan.proofs.Steps.{EntryAt, step_entry}
 use Rattle.recovery.specs.Reach.{reached}
-use Rattle.recovery.proofs.Reaches.{Going, with_lists, reach_ended, going_on}
-use Rattle.recovery.proofs.Ends.{not_entry}
-use borrow.Author.Rules.{rules}
+use Rattle.recovery.proofs.Reaches.{Going, with_lists}
 use Rattle.recovery.proofs.read.read_segment_entries.Given as goal
 
 abbrev pub invariant-loop-entry : goal.invariant-loop-entry

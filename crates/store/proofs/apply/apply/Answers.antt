@@ -7,7 +7,6 @@ use Rattle.entry.proofs.Places.{decode_within}
 use Rattle.store.specs.Apply.{change_of}
 use Rattle.store.specs.Effect.{effect_of}
 use Rattle.store.proofs.Applies.{effect_read, not_refused, marker_keeps}
-use borrow.Author.Rules.{rules}
 use Rattle.store.proofs.apply.apply.Goals as goal
 
 pub returns-in_default : goal.returns-in_default

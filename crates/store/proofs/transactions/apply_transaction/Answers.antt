@@ -1,10 +1,5 @@
 -- `apply_transaction` meets its contract. The invariant: what the link leads to, applied to the rows as they stand, comes to
-use lib.ListN.{length}
-use Rattle.chains.specs.Chain.{from_link}
-use Rattle.store.specs.Running.{entries_in}
-use Rattle.store.proofs.Orders.{transaction_in}
-use Rattle.store.proofs.Walking.{Walking, walking_starts, turn_in, turn_falls, walking_goes, walking_stops, walking_ends}
-use borrow.Author.Rules.{rules}
+use Rattle.store.proofs.Walking.{walking_starts, turn_in, turn_falls, walking_goes, walking_stops, walking_ends}
 use Rattle.store.proofs.transactions.apply_transaction.Goals as goal
 
 pub loop-link-init : goal.loop-link-init

@@ -5,8 +5,7 @@ use lib.ListN.{length}
 use Rattle.chains.specs.Chain.{from_link}
 use Rattle.store.specs.Running.{entries_in}
 use Rattle.store.proofs.Orders.{transaction_in}
-use Rattle.store.proofs.Walking.{Walking, walking_starts, turn_in, turn_falls, walking_goes, walking_stops, walking_ends}
-use borrow.Author.Rules.{rules}
+use Rattle.store.proofs.Walking.{Walking}
 use Rattle.store.proofs.transactions.apply_transaction.Given as goal
 
 abbrev pub invariant-loop-link : goal.invariant-loop-link

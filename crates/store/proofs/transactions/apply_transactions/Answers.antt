@@ -1,8 +1,5 @@
 -- `apply_transactions` meets its contract. The invariant: what is left of the order, applied to the rows as they stand, comes
-use Prim.Native.Nat.{◌-◌, ◌/◌}
-use lib.ListN.{length}
-use Rattle.store.proofs.Replaying.{Replaying, replaying_starts, replaying_goes, replaying_stops, replaying_ends, next_falls}
-use borrow.Author.Rules.{rules}
+use Rattle.store.proofs.Replaying.{replaying_starts, replaying_goes, replaying_stops, replaying_ends, next_falls}
 use Rattle.store.proofs.transactions.apply_transactions.Goals as goal
 
 pub loop-k-init : goal.loop-k-init

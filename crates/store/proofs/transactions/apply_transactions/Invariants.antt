@@ -3,8 +3,7 @@
 -- Assumes nothing.
 use Prim.Native.Nat.{◌-◌, ◌/◌}
 use lib.ListN.{length}
-use Rattle.store.proofs.Replaying.{Replaying, replaying_starts, replaying_goes, replaying_stops, replaying_ends, next_falls}
-use borrow.Author.Rules.{rules}
+use Rattle.store.proofs.Replaying.{Replaying}
 use Rattle.store.proofs.transactions.apply_transactions.Given as goal
 
 abbrev pub invariant-loop-k : goal.invariant-loop-k

@@ -1,11 +1,6 @@
 -- `next_transaction` meets its contract. The invariant: the next one from here on is the next one from the start on.
-use mathlib.Core.Path.{◌≡◌, refl, sym, ◌∙◌}
-use Prim.Native.Nat.{◌-◌, ◌/◌}
-use native.Mathlib.Omega.{arith}
-use lib.ListN.{length}
-use Rattle.store.specs.Running.{transactions_from, next_from}
+use mathlib.Core.Path.{refl, sym, ◌∙◌}
 use Rattle.store.proofs.Orders.{next_stops, next_passes, next_none}
-use borrow.Author.Rules.{rules}
 use Rattle.store.proofs.transactions.next_transaction.Goals as goal
 
 pub loop-at-init : goal.loop-at-init

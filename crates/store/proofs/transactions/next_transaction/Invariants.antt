@@ -1,12 +1,9 @@
 -- `next_transaction` meets its contract. The invariant: the next one from here on is the next one from the start on.
 -- Assumes nothing.
-use mathlib.Core.Path.{◌≡◌, refl, sym, ◌∙◌}
+use mathlib.Core.Path.{◌≡◌}
 use Prim.Native.Nat.{◌-◌, ◌/◌}
-use native.Mathlib.Omega.{arith}
 use lib.ListN.{length}
 use Rattle.store.specs.Running.{transactions_from, next_from}
-use Rattle.store.proofs.Orders.{next_stops, next_passes, next_none}
-use borrow.Author.Rules.{rules}
 use Rattle.store.proofs.transactions.next_transaction.Given as goal
 
 abbrev pub invariant-loop-at : goal.invariant-loop-at
