@@ -9,7 +9,6 @@ use mathlib.Core.Option.{Option, none, some}
 use native.Mathlib.Omega.{arith}
 use lib.ListN.{length, get_or, take, drop, length-append, length-map}
 use lib.Seq.{take-length, take_at, get_or_at}
-use Rattle.refusal.specs.Answer.{accepted}
 use Rattle.records.specs.Dense.{All}
 use Rattle.records.proofs.Dense.{all_parts}
 use Rattle.directory.specs.Image.{segment_bytes}

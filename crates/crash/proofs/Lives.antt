@@ -3,7 +3,6 @@
 use Prim.Native.Nat.{ℕ}
 use mathlib.Core.Path.{◌≡◌, refl, sym, ap, ◌∙◌}
 use mathlib.Core.List.{List, [], ◌∷◌, map}
-use mathlib.Core.Option.{some}
 use Rattle.directory.specs.Record.{records_of}
 use Rattle.crash.specs.Request.{Request}
 use Rattle.crash.specs.Life.{Life, empty, Step, opens, rotates, appends, power_cut, Leads, Lives}
