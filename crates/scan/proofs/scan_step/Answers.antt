@@ -3,7 +3,7 @@
 use mathlib.Core.Path.{◌≡◌, sym, ap, ◌∙◌}
 use Prim.Native.Nat.{ℕ, ◌-◌, ◌≤◌}
 use mathlib.Core.List.{List}
-use mathlib.Core.Bool.{Bool}
+use mathlib.Core.Bool.{Bool, true}
 use Rattle.header.specs.declared.WalEntryHeader.{WalEntryHeader}
 use native.Mathlib.Omega.{arith}
 use borrow.Author.Tests.{leb-true, leb-false}
@@ -37,13 +37,16 @@ unfolding step_at
 returns-then-not-has c =
     sym (from_beyond _ _ c.if-left-lt-SIZE.false (leb-false _ _ (sym (lies c.args.segment.now c.args.at _ _ c.read-header.ensures c.has.ensures) ∙ c.if-not-has.true)))
 
+fits : (s : List ℕ) (at : ℕ) (h : WalEntryHeader) (t : Bool) → h ≡ header_at (take (length s - at) (drop at s)) → t ≡ leb h.length (length s - at - 13) → t ≡ true → (payload_at s at).len ≤ length s - at - 13
+fits s at h t e l k = leb-true _ _ (sym (lies s at h t e l) ∙ k)
+
 pub judge_at-requires : goal.judge_at-requires
 judge_at-requires c =
-    let fits : (payload_at c.args.segment.now c.args.at).len ≤ length c.args.segment.now - c.args.at - 13 = leb-true _ _ (sym (lies c.args.segment.now c.args.at _ _ c.read-header.ensures c.has.ensures) ∙ c.if-not-has.false) in
+    let f = fits c.args.segment.now c.args.at _ _ c.read-header.ensures c.has.ensures c.if-not-has.false in
     rw (header c.args.segment.now c.args.at _ c.read-header.ensures) (omega arith)
 
 pub returns : goal.returns
 unfolding step_at
 returns c =
-    let fits : (payload_at c.args.segment.now c.args.at).len ≤ length c.args.segment.now - c.args.at - 13 = leb-true _ _ (sym (lies c.args.segment.now c.args.at _ _ c.read-header.ensures c.has.ensures) ∙ c.if-not-has.false) in
-    rw (header c.args.segment.now c.args.at _ c.read-header.ensures) at c.judge_at.ensures ∙ sym (from_whole _ _ c.if-left-lt-SIZE.false fits)
+    let f = fits c.args.segment.now c.args.at _ _ c.read-header.ensures c.has.ensures c.if-not-has.false in
+    rw (header c.args.segment.now c.args.at _ c.read-header.ensures) at c.judge_at.ensures ∙ sym (from_whole _ _ c.if-left-lt-SIZE.false f)
