@@ -22,10 +22,10 @@ loop-k-preserved c =
     let r = c.record_at-segment in
     let t = c.is_dropped in
     elim c.if-not-is_dropped.branch [
-      then-not-is_dropped w ↦
-        rw (w.directory-is, w.kept-is, w.put_record.ensures) (closing_kept _ _ _ _ _ _ _ r.result t.result l.invariant (omega arith) r.ensures t.ensures w.if-not-is_dropped.true)
-    | else-not-is_dropped w ↦
-        rw (w.directory-is, w.kept-is) (closing_dropped _ _ _ _ _ _ _ r.result t.result l.invariant (omega arith) r.ensures t.ensures w.if-not-is_dropped.false)
+      | then-not-is_dropped w ↦
+          rw (w.directory-is, w.kept-is, w.put_record.ensures) (closing_kept _ _ _ _ _ _ _ r.result t.result l.invariant (omega arith) r.ensures t.ensures w.if-not-is_dropped.true)
+      | else-not-is_dropped w ↦
+          rw (w.directory-is, w.kept-is) (closing_dropped _ _ _ _ _ _ _ r.result t.result l.invariant (omega arith) r.ensures t.ensures w.if-not-is_dropped.false)
     ]
 
 pub overflow_mul-freed : goal.overflow_mul-freed

@@ -4,7 +4,6 @@ use mathlib.Core.Path.{◌≡◌}
 use Prim.Native.Nat.{◌+◌, ◌-◌}
 use native.Mathlib.Omega.{arith}
 use Rattle.directory.specs.Image.{segment_bytes}
-use borrow.Author.Rules.{rules}
 use Rattle.truncation.proofs.is_dropped.Goals as goal
 
 pub returns : goal.returns

@@ -1,13 +1,10 @@
 -- `read_segment_max_tx_id` meets its contract.
 -- Assumes nothing.
-use mathlib.Core.Path.{◌≡◌, sym, ◌∙◌}
-use Prim.Native.Nat.{max, ◌-◌}
+use mathlib.Core.Path.{sym, ◌∙◌}
 use native.Mathlib.Omega.{arith}
-use lib.ListN.{length}
-use Rattle.scan.specs.Highest.{highest_from, highest_of}
+use Rattle.scan.specs.Highest.{highest_of}
 use Rattle.scan.proofs.Walks.{highest_wrong, highest_partial, highest_end}
 use Rattle.truncation.proofs.Scans.{passing_entry, passing_undecodable}
-use borrow.Author.Rules.{rules}
 use Rattle.truncation.proofs.read_segment_max_tx_id.Goals as goal
 
 pub loop-entry-init : goal.loop-entry-init

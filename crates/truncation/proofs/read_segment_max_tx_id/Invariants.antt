@@ -1,14 +1,10 @@
 -- `read_segment_max_tx_id` meets its contract. The invariant: the highest number so far and the highest of what is left
 -- are together the segment's.
 -- Assumes nothing.
-use mathlib.Core.Path.{◌≡◌, sym, ◌∙◌}
+use mathlib.Core.Path.{◌≡◌}
 use Prim.Native.Nat.{max, ◌-◌}
-use native.Mathlib.Omega.{arith}
 use lib.ListN.{length}
 use Rattle.scan.specs.Highest.{highest_from, highest_of}
-use Rattle.scan.proofs.Walks.{highest_wrong, highest_partial, highest_end}
-use Rattle.truncation.proofs.Scans.{passing_entry, passing_undecodable}
-use borrow.Author.Rules.{rules}
 use Rattle.truncation.proofs.read_segment_max_tx_id.Given as goal
 
 abbrev pub invariant-loop-entry : goal.invariant-loop-entry

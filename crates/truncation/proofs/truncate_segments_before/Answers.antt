@@ -7,7 +7,6 @@ use Rattle.directory.specs.Rule.{tested_as}
 use Rattle.directory.proofs.Records.{length_records}
 use Rattle.truncation.specs.Truncate.{truncate_of}
 use Rattle.truncation.proofs.Truncates.{kept_most}
-use borrow.Author.Rules.{rules}
 use Rattle.truncation.proofs.truncate_segments_before.Goals as goal
 
 pub close_up-kept-requires : goal.close_up-kept-requires
