@@ -1,8 +1,6 @@
 -- `count_entries` meets its contract. The invariant: the entries met so far and those that are left are the segment's.
-use mathlib.Core.Path.{◌≡◌, refl, sym, ap, ◌∙◌}
-use Prim.Native.Nat.{ℕ, ◌-◌}
+use mathlib.Core.Path.{◌≡◌, sym, ap, ◌∙◌}
 use native.Mathlib.Omega.{arith}
-use lib.ListN.{length}
 use Rattle.entry.specs.Decode.{end_of}
 use Rattle.scan.specs.Step.{step_at}
 use Rattle.scan.specs.declared.Step.{Step}
@@ -12,7 +10,7 @@ use Rattle.recovery.proofs.Reaches.{is_entry}
 use Rattle.recovery.proofs.Ends.{not_entry}
 use Rattle.ringwal.specs.Walker.{offset_after, walked_at}
 use Rattle.ringwal.specs.declared.walker.Walked.{Walked}
-use Rattle.ringwal.proofs.Walks.{Counting, counting_starts, counting_on, counting_fits, counting_ends}
+use Rattle.ringwal.proofs.Walks.{counting_starts, counting_on, counting_fits, counting_ends}
 use borrow.Author.Rules.{rules}
 use Rattle.ringwal.proofs.walker.count_entries.Goals as goal
 

@@ -5,7 +5,6 @@ use Rattle.scan.specs.declared.Step.{Step}
 use Rattle.recovery.proofs.Ends.{not_entry}
 use Rattle.ringwal.specs.Walker.{offset_after}
 use Rattle.ringwal.proofs.Walks.{offset_stays}
-use borrow.Author.Rules.{rules}
 use Rattle.ringwal.proofs.walker.offset_after.Goals as goal
 
 pub returns-in_default : goal.returns-in_default

@@ -1,6 +1,5 @@
 -- `checkpoint_answer` meets its contract: a refusal, or the number.
 -- Assumes nothing.
-use borrow.Author.Rules.{rules}
 use Rattle.ringwal_c.proofs.checkpoints.checkpoint_answer.Goals as goal
 
 pub returns-in-Refused : goal.returns-in-Refused

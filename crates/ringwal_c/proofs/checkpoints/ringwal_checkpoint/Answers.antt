@@ -2,7 +2,6 @@
 -- Assumes nothing.
 use mathlib.Core.Path.{ap}
 use Rattle.ringwal_c.specs.Checkpoints.{checkpoint_for}
-use borrow.Author.Rules.{rules}
 use Rattle.ringwal_c.proofs.checkpoints.ringwal_checkpoint.Goals as goal
 
 pub returns : goal.returns

@@ -3,7 +3,6 @@
 use Rattle.truncation.specs.Truncate.{Truncating}
 use mathlib.Core.Path.{ap}
 use Rattle.ringwal_c.specs.Checkpoints.{truncate_for}
-use borrow.Author.Rules.{rules}
 use Rattle.ringwal_c.proofs.checkpoints.ringwal_truncate_segments_before.Goals as goal
 
 pub returns : goal.returns

@@ -1,6 +1,5 @@
 -- `truncate_answer` meets its contract: a refusal, or the used count and how many were dropped.
 -- Assumes nothing.
-use borrow.Author.Rules.{rules}
 use Rattle.ringwal_c.proofs.checkpoints.truncate_answer.Goals as goal
 
 pub returns-in-Refused : goal.returns-in-Refused

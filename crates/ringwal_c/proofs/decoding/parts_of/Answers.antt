@@ -1,6 +1,5 @@
 -- `parts_of` meets its contract: a case for each kind.
 -- Assumes nothing.
-use borrow.Author.Rules.{rules}
 use Rattle.ringwal_c.proofs.decoding.parts_of.Goals as goal
 
 pub returns-in-Insert : goal.returns-in-Insert

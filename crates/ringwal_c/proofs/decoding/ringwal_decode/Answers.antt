@@ -1,6 +1,5 @@
 -- `ringwal_decode` meets its contract.
 -- Assumes nothing.
-use borrow.Author.Rules.{rules}
 use Rattle.ringwal_c.proofs.decoding.ringwal_decode.Goals as goal
 
 pub returns-in_default : goal.returns-in_default

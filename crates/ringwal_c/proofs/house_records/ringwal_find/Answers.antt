@@ -1,6 +1,5 @@
 -- `ringwal_find` meets its contract.
 -- Assumes nothing.
-use borrow.Author.Rules.{rules}
 use Rattle.ringwal_c.proofs.house_records.ringwal_find.Goals as goal
 
 pub returns-in-At : goal.returns-in-At

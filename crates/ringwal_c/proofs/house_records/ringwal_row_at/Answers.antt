@@ -2,7 +2,6 @@
 -- Assumes nothing.
 use mathlib.Core.Path.{ap}
 use Rattle.ringwal_c.specs.HouseRecords.{row_for}
-use borrow.Author.Rules.{rules}
 use Rattle.ringwal_c.proofs.house_records.ringwal_row_at.Goals as goal
 
 pub returns : goal.returns

@@ -2,7 +2,6 @@
 -- Assumes nothing.
 use mathlib.Core.Path.{ap}
 use Rattle.ringwal_c.specs.HouseRecords.{transaction_for}
-use borrow.Author.Rules.{rules}
 use Rattle.ringwal_c.proofs.house_records.ringwal_transaction_at.Goals as goal
 
 pub returns : goal.returns

@@ -1,6 +1,5 @@
 -- `name_answer` meets its contract: a refusal, or the length.
 -- Assumes nothing.
-use borrow.Author.Rules.{rules}
 use Rattle.ringwal_c.proofs.naming.name_answer.Goals as goal
 
 pub returns-in-Refused : goal.returns-in-Refused

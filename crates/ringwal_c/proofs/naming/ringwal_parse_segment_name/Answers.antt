@@ -1,6 +1,5 @@
 -- `ringwal_parse_segment_name` meets its contract.
 -- Assumes nothing.
-use borrow.Author.Rules.{rules}
 use Rattle.ringwal_c.proofs.naming.ringwal_parse_segment_name.Goals as goal
 
 pub returns-in-NoName : goal.returns-in-NoName

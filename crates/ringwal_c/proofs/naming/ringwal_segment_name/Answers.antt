@@ -2,7 +2,6 @@
 -- Assumes nothing.
 use mathlib.Core.Path.{ap}
 use Rattle.ringwal_c.specs.Naming.{for_host}
-use borrow.Author.Rules.{rules}
 use Rattle.ringwal_c.proofs.naming.ringwal_segment_name.Goals as goal
 
 pub returns : goal.returns

@@ -1,6 +1,5 @@
 -- `recover_answer` meets its contract: a refusal, or the values.
 -- Assumes nothing.
-use borrow.Author.Rules.{rules}
 use Rattle.ringwal_c.proofs.recovering.recover_answer.Goals as goal
 
 pub returns-in-Refused : goal.returns-in-Refused

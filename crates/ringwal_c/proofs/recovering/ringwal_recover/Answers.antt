@@ -2,7 +2,6 @@
 -- Assumes nothing.
 use mathlib.Core.Path.{ap}
 use Rattle.ringwal_c.specs.Recovering.{recover_for}
-use borrow.Author.Rules.{rules}
 use Rattle.ringwal_c.proofs.recovering.ringwal_recover.Goals as goal
 
 pub returns : goal.returns

@@ -1,6 +1,5 @@
 -- `append_answer` meets its contract: a refusal, or the used count and the bytes written.
 -- Assumes nothing.
-use borrow.Author.Rules.{rules}
 use Rattle.ringwal_c.proofs.writing.append_answer.Goals as goal
 
 pub returns-in-Refused : goal.returns-in-Refused

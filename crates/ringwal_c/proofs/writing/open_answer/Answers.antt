@@ -1,6 +1,5 @@
 -- `open_answer` meets its contract: a refusal, or the used count.
 -- Assumes nothing.
-use borrow.Author.Rules.{rules}
 use Rattle.ringwal_c.proofs.writing.open_answer.Goals as goal
 
 pub returns-in-Refused : goal.returns-in-Refused

@@ -3,7 +3,6 @@
 use mathlib.Core.Path.{ap}
 use Rattle.segment.specs.Writing.{Log}
 use Rattle.ringwal_c.specs.Writing.{append_for}
-use borrow.Author.Rules.{rules}
 use Rattle.ringwal_c.proofs.writing.ringwal_append.Goals as goal
 
 pub returns : goal.returns

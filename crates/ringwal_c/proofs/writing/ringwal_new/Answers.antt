@@ -2,7 +2,6 @@
 -- Assumes nothing.
 use mathlib.Core.Path.{ap, ◌∙◌}
 use Rattle.ringwal_c.specs.Writing.{writer_of}
-use borrow.Author.Rules.{rules}
 use Rattle.ringwal_c.proofs.writing.ringwal_new.Goals as goal
 
 pub returns : goal.returns

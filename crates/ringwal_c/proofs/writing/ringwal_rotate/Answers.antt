@@ -3,7 +3,6 @@
 use mathlib.Core.Path.{ap}
 use Rattle.segment.specs.Writing.{OpenedLog}
 use Rattle.ringwal_c.specs.Writing.{open_for}
-use borrow.Author.Rules.{rules}
 use Rattle.ringwal_c.proofs.writing.ringwal_rotate.Goals as goal
 
 pub returns : goal.returns
