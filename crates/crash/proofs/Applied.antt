@@ -15,8 +15,10 @@ use Rattle.crash.specs.Crash.{Lent, recovering, replaying, read_as, Follows, cut
 use Rattle.crash.specs.Kept.{kept_by}
 use Rattle.crash.specs.Operator.{Relies, NoTrace}
 use Rattle.crash.specs.Words.{numbers}
-use Rattle.crash.specs.Example.{story, computed, given}
-use Rattle.crash.specs.TwoCuts.{later, later_so, later_lived, earlier, earlier_so, earlier_lived}
+use Rattle.crash.specs.Example.{story}
+use Rattle.crash.proofs.Example.{computed, given}
+use Rattle.crash.specs.TwoCuts.{later, earlier}
+use Rattle.crash.proofs.TwoCuts.{later_so, later_lived, earlier_so, earlier_lived}
 use Rattle.crash.proofs.Orders.{table_is}
 use Rattle.crash.proofs.Crash.{demand_3, any_history}
 use Rattle.crash.proofs.Operator.{cut_relies, no_trace}

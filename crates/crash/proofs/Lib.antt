@@ -21,4 +21,6 @@ pub mod Touches
 pub mod Sources
 pub mod Beginnings
 pub mod Operator
+pub mod Example
+pub mod TwoCuts
 pub mod Applied

@@ -1,62 +1,42 @@
 -- One run and one cut that meet all that `demand_3` is given, by computation: three segments, and a cut inside an entry of the
 -- middle one.
 -- Assumes nothing.
-use Rattle.std.specs.Prelude.{ℕ, ◌≡◌, refl, true, false, cond, List, [], ◌∷◌, ◌++◌, map, eqb, length, replicate, take, drop}
-use Rattle.std.proofs.Common.{arith, eqb-true}
-use Rattle.fields.specs.Le.{le_of, le_bytes}
-use Rattle.fields.specs.Order.{compare_bytes}
-use Rattle.utf8.specs.Grammar as Utf8
-use Rattle.utf8.specs.Grammar.{is_utf8, completes, any, utf8_char, utf8_1, utf8_2, utf8_3, utf8_4, tail}
-use Rattle.header.specs.Header.{header_of, header_bytes, entry_bytes}
-use Rattle.payload.specs.Kind.{by_kind}
-use Rattle.payload.specs.Content.{fixed_bytes, part_bytes, payload_of, key_fits, value_fits, well_formed}
-use Rattle.payload.specs.Encode.{asked}
-use Rattle.records.specs.Sorted.{compare_numbers, put, remove}
+use Rattle.std.specs.Prelude.{ℕ, ◌≡◌, true, false, cond, List, [], ◌∷◌, ◌++◌, map, length, replicate, take, drop}
 use Rattle.refusal.specs.Answer.{accepted}
-use Rattle.directory.specs.Lent.{fits_of}
-use Rattle.directory.specs.Record.{record_at, record_bytes, records_of}
-use Rattle.directory.specs.Rule.{lies_of, follows_of, rule_from, directory_rule, test_of}
-use Rattle.plan.specs.Plan.{last_in, new_segment, next_of, new_segment_of, append_test_of, behind_of, plan_of, plan_append_of}
-use Rattle.segment.specs.Writing.{open_of, counted, append_entry_of, append_of}
-use Rattle.lists.specs.Entries.{highest_in}
-use Rattle.lists.specs.Tally.{tally_of}
-use Rattle.lists.specs.Transactions.{noted, begun, note, note_all, transactions_of}
-use Rattle.recovery.specs.Recover as Recovers
-use Rattle.recovery.specs.Recover.{stats_of, recovered_of}
+use Rattle.directory.specs.Record.{records_of}
+use Rattle.recovery.specs.Recover.{recovered_of}
 use Rattle.recovery.specs.declared.Next.TheVariants.{Number}
 use Rattle.table.specs.Row.{row_of}
-use Rattle.table.specs.Table.{set, remove_key}
-use Rattle.store.specs.Effect.{effect_of}
-use Rattle.store.specs.Order.{committed_of, replay_order}
-use Rattle.crash.specs.Request.{Request, encoded, Written}
-use Rattle.crash.specs.Kept.{kept_by, is_inside, listed_as, listed_all}
-use Rattle.crash.specs.Life.{Life, empty, opening, appending, Cut, IsCut, Step, opens, appends}
-use Rattle.crash.specs.Settings.{settle, run_number, run_numbers, is_committed, has_marker, keys_of, number_of}
-use Rattle.crash.specs.Crash.{Enough, read_as, Story, Given, cut_of}
+use Rattle.store.specs.Order.{replay_order}
+use Rattle.crash.specs.Request.{Request, Written}
+use Rattle.crash.specs.Kept.{kept_by, is_inside, listed_all}
+use Rattle.crash.specs.Life.{Life, empty, Cut, IsCut, Step, opens, appends}
+use Rattle.crash.specs.Settings.{run_numbers, is_committed}
+use Rattle.crash.specs.Crash.{Enough, read_as, Story, cut_of}
 use Rattle.crash.specs.Words.{inserts, updates, deletes, commits, aborts, at, numbers}
-use Rattle.crash.specs.Runs.{are_bytes, is_typed, after, after_all, accepts, accepts_all, is_one_of, are_among, same_list, same_list_lem, are_among_lem, run_lives, same_front}
+use Rattle.crash.specs.Runs.{after_all, accepts_all}
 
 -- the keys a, b and c
-abbrev a : List ℕ
+abbrev pub a : List ℕ
 a = 97 ∷ []
 
-abbrev b : List ℕ
+abbrev pub b : List ℕ
 b = 98 ∷ []
 
-abbrev c : List ℕ
+abbrev pub c : List ℕ
 c = 99 ∷ []
 
 -- Each has its log number, its transaction, its key and its values. 1 and 2 overlap, and 2 commits first; 3 aborts; 4 commits
 -- behind the cut.
-abbrev asked_for : List Request
+abbrev pub asked_for : List Request
 asked_for =
     inserts 1 1 a 1 ∷ updates 2 2 a 1 2 ∷ deletes 3 2 b 9 ∷ inserts 4 1 b 1 ∷ commits 5 2 ∷ inserts 6 1 c 1 ∷ inserts 7 3 c 3 ∷ commits 8 1 ∷ aborts 9 3 ∷ inserts 10 4 a 4 ∷ updates 11 4 b 1 4 ∷ commits 12 4 ∷ []
 
 -- the bound is 230, the area has 600 bytes and the directory 5 records
-abbrev steps : List Step
+abbrev pub steps : List Step
 steps = opens 230 ∷ map appends asked_for
 
-abbrev start : Life
+abbrev pub start : Life
 start = empty (replicate 600 0) (replicate 120 0)
 
 unfoldable pub written : Life
@@ -64,7 +44,7 @@ written = after_all steps start
 
 -- The second segment is kept up to its byte 250. The area is then shorter, with other bytes behind the cut; the directory is
 -- made anew, with 3 records.
-abbrev cut : Cut
+abbrev pub cut : Cut
 cut =
     record {
       k = 1;
@@ -85,10 +65,10 @@ story =
       lent = record { entries = replicate 384 1; transactions = replicate 96 1; table = replicate 960 1 };
     }
 
-abbrev kept : List Written
+abbrev pub kept : List Written
 kept = kept_by (cut_of story) written.entries
 
-abbrev partial : ℕ
+abbrev pub partial : ℕ
 partial = cond (is_inside (cut_of story) written.entries) 1 0
 
 -- all by computation
@@ -127,61 +107,3 @@ pub record Computed : Type 0 where
   -- at the first byte nothing is kept, and nothing torn
   pub at_first : is_inside 0 written.entries ≡ false
   pub kept_at_first : kept_by 0 written.entries ≡ []
-
-pub computed : Computed
-unfolding written is_one_of are_among same_list are_bytes is_typed accepts accepts_all after after_all kept_by is_inside listed_as encoded opening appending settle run_number run_numbers keys_of is_committed has_marker effect_of replay_order committed_of set remove_key put remove compare_numbers compare_bytes transactions_of note_all note noted begun open_of append_of append_entry_of counted new_segment_of next_of last_in new_segment append_test_of plan_append_of plan_of behind_of test_of fits_of directory_rule rule_from follows_of lies_of records_of record_at record_bytes le_bytes le_of asked by_kind well_formed key_fits value_fits is_utf8 completes any Utf8.after Utf8.begun utf8_char utf8_1 utf8_2 utf8_3 utf8_4 tail payload_of fixed_bytes part_bytes entry_bytes header_of header_bytes recovered_of stats_of tally_of highest_in Recovers.next_of
-computed =
-    record {
-      is_written = refl;
-      is_cut =
-          record {
-            segment = omega arith;
-            byte = omega arith;
-            area_fits = refl;
-            area_kept = same_front 496 written.held.area (replicate 16 255) (omega arith);
-            directory_fits = refl;
-            directory_size = omega arith;
-            directory_kept = refl;
-          };
-      is_enough =
-          record {
-            entry_list = refl;
-            every_entry = omega arith;
-            transaction_list = refl;
-            numbers = 1 ∷ 2 ∷ 3 ∷ 4 ∷ [];
-            every_number = are_among_lem eqb (λ x y e. eqb-true x y e) (1 ∷ 2 ∷ 3 ∷ 4 ∷ []) (map number_of written.entries) refl;
-            number_records = omega arith;
-            table_fits = refl;
-            keys = a ∷ b ∷ c ∷ [];
-            every_key = are_among_lem same_list same_list_lem (a ∷ b ∷ c ∷ []) (keys_of written.entries) refl;
-            key_records = omega arith;
-          };
-      segments = refl;
-      stored = refl;
-      stored_update = refl;
-      inside = refl;
-      answer = refl;
-      committed = refl;
-      order = refl;
-      rows = refl;
-      other_order = refl;
-      uncut = refl;
-      at_end = refl;
-      kept_at_end = refl;
-      torn = refl;
-      kept_torn = refl;
-      at_start = refl;
-      kept_at_start = refl;
-      behind_start = refl;
-      at_first = refl;
-      kept_at_first = refl;
-    }
-
-pub given : Given story
-unfolding written
-given =
-    record {
-      written = run_lives steps start computed.is_written;
-      is_cut = computed.is_cut;
-      enough = computed.is_enough;
-    }

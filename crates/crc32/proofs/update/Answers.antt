@@ -1,4 +1,4 @@
--- `crc32::update` meets its contract. The loop's invariant: from the register as it is, the bytes that are left lead to
+-- `crc32::update` meets its contract.
 -- what all bytes lead to from the start.
 -- Assumes nothing.
 use mathlib.Core.Path.{◌≡◌, refl, ap, ◌∙◌}

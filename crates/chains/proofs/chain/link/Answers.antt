@@ -1,4 +1,4 @@
--- `chains::chain::link` meets its contract. The invariant: the entries that are left, linked in the lists as they stand, are
+-- `chains::chain::link` meets its contract.
 use mathlib.Core.Path.{◌≡◌, refl, ◌∙◌}
 use native.Mathlib.Omega.{arith}
 use Rattle.chains.specs.Link.{lent, link_all}

@@ -1,4 +1,4 @@
--- `chains::chain::unlink_list` meets its contract. The invariant: the links that are left, taken out of the list as it
+-- `chains::chain::unlink_list` meets its contract.
 use mathlib.Core.Path.{◌≡◌, refl, ◌∙◌}
 use native.Mathlib.Omega.{arith}
 use Rattle.chains.proofs.Turns.{unlink_turn}

@@ -1,4 +1,4 @@
--- `part_at` meets its contract: at each return the tests that led there pick the case of `part_at`.
+-- `part_at` meets its contract: at each return the tests that led there pick the case of its definition.
 -- Assumes nothing.
 use borrow.Author.Tests.{le-leb, lt-leb}
 use Rattle.entry.specs.Decode.{part_at}

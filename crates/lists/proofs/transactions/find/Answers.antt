@@ -1,4 +1,4 @@
--- `lists::transactions::find` meets its contract. The invariant: what halving finds in the range that is left is what it
+-- `lists::transactions::find` meets its contract.
 use Rattle.std.proofs.Common.{◌≡◌, ◌+◌, ◌/◌, ◌<◌, sym, refl, ◌∙◌, arith}
 use Rattle.fields.specs.declared.bytes.Ordering.TheVariants.{Less, Equal, Greater}
 use Rattle.records.specs.Halving.{found_in}

@@ -1,4 +1,4 @@
--- `read_log` meets its contract. The invariant: what is left of the log, read into the lists as they stand, comes to the whole
+-- `read_log` meets its contract.
 use mathlib.Core.Path.{refl}
 use Prim.Native.Nat.{◌+◌, ◌-◌, ◌<◌, ◌≤◌}
 use native.Mathlib.Omega.{arith}

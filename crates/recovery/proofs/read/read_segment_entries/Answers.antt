@@ -1,4 +1,4 @@
--- `read_segment_entries` meets its contract. The invariant: what is left of the segment, read into the lists as they stand,
+-- `read_segment_entries` meets its contract.
 use mathlib.Core.Path.{refl, sym, ◌∙◌}
 use native.Mathlib.Omega.{arith}
 use Rattle.scan.specs.Read.{read_segment}

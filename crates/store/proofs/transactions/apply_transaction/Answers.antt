@@ -1,4 +1,4 @@
--- `apply_transaction` meets its contract. The invariant: what the link leads to, applied to the rows as they stand, comes to
+-- `apply_transaction` meets its contract.
 use Rattle.store.proofs.Walking.{walking_starts, turn_in, turn_falls, walking_goes, walking_stops, walking_ends}
 use Rattle.store.proofs.transactions.apply_transaction.Goals as goal
 

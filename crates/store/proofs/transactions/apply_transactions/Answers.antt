@@ -1,4 +1,4 @@
--- `apply_transactions` meets its contract. The invariant: what is left of the order, applied to the rows as they stand, comes
+-- `apply_transactions` meets its contract.
 use Rattle.store.proofs.Replaying.{replaying_starts, replaying_goes, replaying_stops, replaying_ends, next_falls}
 use Rattle.store.proofs.transactions.apply_transactions.Goals as goal
 
