@@ -3,8 +3,9 @@
 // failed, and what was written before it stays.
 #![tactic(auto)]
 
-ghost use Rattle.std.specs.Prelude.{◌≡◌, ◌<◌, ◌≤◌, length};
+ghost use Rattle.std.specs.Prelude.{◌≡◌, ◌<◌, ◌≤◌, length, take, IfOk};
 ghost use Rattle.std.specs.Io.{ReadsAtMost};
+ghost use Rattle.std.specs.Io.KnownBytes.{Consumes, IsAtEnd};
 ghost use Rattle.console.specs.Cut.{IsPrefixLen, before_of, cut_of};
 
 use refusal::Refusal;
@@ -57,16 +58,19 @@ pub fn cut_at(text: &[u8], byte: u8) -> Cut
     }
 }
 
-// Reads until the buffer is full or the input ends, and returns how many bytes it put at the buffer's start. After an
-// error, that of the read that failed, the buffer may hold anything.
+// Reads until the buffer is full or the input ends, and returns how many bytes it put at the buffer's start: those that
+// the reader had to give, and all of them where there is room left. After an error, that of the read that failed, the
+// buffer may hold anything.
 pub fn read_full<R: Read>(reader: &mut R, buf: &mut [u8]) -> io::Result<usize>
-    ensures { ReadsAtMost result buf.new }
+    ensures bound { ReadsAtMost result buf.new }
+    ensures bytes { IfOk result (λ n. Consumes (R.remaining reader.old) (R.remaining reader.new) (take n buf.new)) }
+    ensures end { IfOk result (λ n. n < length buf.old → IsAtEnd (R.remaining reader.new)) }
 {
     let mut done = 0;
     while done < buf.len() {
         let n = reader.read(&mut buf[done..])?;
         if n == 0 {
-            break;
+            return Ok(done);
         }
         done += n;
     }
