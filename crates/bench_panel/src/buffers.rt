@@ -32,6 +32,13 @@ pub(crate) fn target() -> [u8; 64]
     [0x2a; 64]
 }
 
+// What the digits of up to 2,048 bytes are spelled into.
+pub(crate) fn digits() -> [u8; 4_096]
+    ensures { 4_096 ≡ length result }
+{
+    [0; 4_096]
+}
+
 // The bytes of a line's operands: 4,096 for each of seven.
 pub(crate) fn operands() -> [u8; 28_672]
     ensures { 28_672 ≡ length result }

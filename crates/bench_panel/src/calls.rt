@@ -3,59 +3,59 @@ use crate::line::Line;
 use crate::panel::Log;
 use crate::{line, printing};
 use segment::{Appended, Appending, Opened, Opening};
+use std::io;
 use truncation::Truncated;
 
 // The name under which an opening or a rotation is answered.
-fn print_opened(row: u64, used: usize) {
+fn print_opened(rt: &impl Print, row: u64, used: usize) -> io::Result<()> {
     if row == line::OPEN {
-        printing::print_size(b"opened", used);
-        return;
+        return printing::print_size(rt, b"opened", used);
     }
-    printing::print_size(b"rotated", used);
+    printing::print_size(rt, b"rotated", used)
 }
 
-fn opened(log: Log, row: u64, opening: Opening) -> Log {
+fn opened(rt: &impl Print, log: Log, row: u64, opening: Opening) -> io::Result<Log> {
     let manager = opening.manager;
     let answer = opening.answer;
     match answer {
         Opened::Used(used) => {
-            print_opened(row, used);
-            Log { manager, used }
+            print_opened(rt, row, used)?;
+            Ok(Log { manager, used })
         }
         Opened::Refused(refusal) => {
-            console::print_refused(refusal);
+            console::print_refused(rt, refusal)?;
             let used = log.used;
-            Log { manager, used }
+            Ok(Log { manager, used })
         }
     }
 }
 
-fn appended(log: Log, appending: Appending) -> Log {
+fn appended(rt: &impl Print, log: Log, appending: Appending) -> io::Result<Log> {
     let manager = appending.manager;
     let answer = appending.answer;
     match answer {
         Appended::Written { used, len } => {
-            printing::print_size(b"appended", len);
-            Log { manager, used }
+            printing::print_size(rt, b"appended", len)?;
+            Ok(Log { manager, used })
         }
         Appended::Refused(refusal) => {
-            console::print_refused(refusal);
+            console::print_refused(rt, refusal)?;
             let used = log.used;
-            Log { manager, used }
+            Ok(Log { manager, used })
         }
     }
 }
 
-fn truncated(log: Log, answer: Truncated) -> Log {
+fn truncated(rt: &impl Print, log: Log, answer: Truncated) -> io::Result<Log> {
     match answer {
         Truncated::Dropped { count, used } => {
-            printing::print_size(b"truncated", count);
+            printing::print_size(rt, b"truncated", count)?;
             let manager = log.manager;
-            Log { manager, used }
+            Ok(Log { manager, used })
         }
         Truncated::Refused(refusal) => {
-            console::print_refused(refusal);
-            log
+            console::print_refused(rt, refusal)?;
+            Ok(log)
         }
     }
 }
@@ -95,21 +95,23 @@ fn append(log: Log, area: &mut [u8], directory: &mut [u8], line: Line, bytes: &[
 }
 
 pub(crate) fn answer(
+    rt: &impl Print,
     log: Log,
     area: &mut [u8],
     directory: &mut [u8],
     line: Line,
     bytes: &[u8],
-) -> Log {
+) -> io::Result<Log> {
     let row = line.row;
     if row < line::RAW {
-        return opened(log, row, open(log, area, directory, row));
+        return opened(rt, log, row, open(log, area, directory, row));
     }
     if row < line::TRUNCATE {
-        return appended(log, append(log, area, directory, line, bytes));
+        return appended(rt, log, append(log, area, directory, line, bytes));
     }
     let checkpoint = line.values[0];
     truncated(
+        rt,
         log,
         truncation::truncate_segments_before(area, directory, log.used, checkpoint),
     )

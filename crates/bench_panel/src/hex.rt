@@ -1,9 +1,10 @@
 // Bytes as lowercase hex digits, or `-` for none.
 ghost use Rattle.std.specs.Prelude.{◌+◌, ◌-◌, ◌*◌, ◌<◌, ◌≤◌, length};
-ghost use Rattle.io.specs.Counts.{IsPrefixLen};
+ghost use Rattle.console.specs.Cut.{IsPrefixLen};
 
+use crate::buffers;
 use crate::words::Number;
-use libc::STDOUT_FILENO;
+use std::io;
 
 // A word has at most so many bytes.
 pub(crate) const MOST: usize = 4_096;
@@ -115,27 +116,28 @@ fn part_end(at: usize, len: usize) -> usize
     at + 2_048
 }
 
-fn print_part(bytes: &[u8])
+fn print_part(rt: &impl Print, bytes: &[u8]) -> io::Result<()>
     requires { length bytes.now ≤ 2_048 }
 {
-    let mut text = io::buffer();
+    let mut text = buffers::digits();
     spell(bytes, &mut text, bytes.len());
     let end = 2 * bytes.len();
-    io::write_all(STDOUT_FILENO, &text[..end]);
+    rt.write_all(&text[..end])
 }
 
-fn print_none() {
-    io::write_all(STDOUT_FILENO, b"-");
+fn print_none(rt: &impl Print) -> io::Result<()> {
+    rt.write_all(b"-")
 }
 
-pub(crate) fn print(bytes: &[u8]) {
+pub(crate) fn print(rt: &impl Print, bytes: &[u8]) -> io::Result<()> {
     if bytes.len() == 0 {
-        print_none();
+        print_none(rt)?;
     }
     let mut at = 0;
     while at < bytes.len() {
         let end = part_end(at, bytes.len());
-        print_part(&bytes[at..end]);
+        print_part(rt, &bytes[at..end])?;
         at = end;
     }
+    Ok(())
 }

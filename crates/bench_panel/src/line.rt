@@ -3,6 +3,7 @@ ghost use Rattle.std.specs.Prelude.{◌<◌, ◌≤◌, length};
 
 use crate::words::Number;
 use crate::{hex, words};
+use std::io;
 
 const OPERANDS: usize = 7;
 
@@ -79,8 +80,8 @@ impl Line {
         }
     }
 
-    pub(crate) fn print_bad(self) {
-        console::print_line(b"bad line", &[self.k]);
+    pub(crate) fn print_bad(self, rt: &impl Print) -> io::Result<()> {
+        console::print_line(rt, b"bad line", &[self.k])
     }
 }
 

@@ -2,7 +2,7 @@
 //
 // The calls are handed the lent parts of the buffers, and `lists` tells of those; every other line works on the buffers
 // as a whole, whatever is lent. A word has at least one byte, so two spaces together, or one at a line's end, make a bad
-// line.
+// line. A read or a write that fails is the panel's error, and ends the script.
 #![tactic(auto)]
 
 mod buffers;
@@ -18,18 +18,19 @@ mod turn;
 mod whole;
 mod words;
 
-use libc::STDIN_FILENO;
 use panel::Panel;
 use refusal::Refusal;
+use std::io;
 
 fn run(
+    rt: &impl Print,
     script: &[u8],
     area: &mut [u8; 1_048_576],
     directory: &mut [u8; 98_304],
     entries: &mut [u8; 524_288],
     transactions: &mut [u8; 98_304],
     table: &mut [u8; 327_680],
-) {
+) -> io::Result<()> {
     let mut panel = Panel::new();
     let mut k = 0;
     let mut at = 0;
@@ -38,6 +39,7 @@ fn run(
         let end = line.end;
         k += 1;
         panel = turn::answer(
+            rt,
             panel,
             area,
             directory,
@@ -46,17 +48,17 @@ fn run(
             table,
             k,
             &script[at..end],
-        );
+        )?;
         at = line.next;
     }
+    Ok(())
 }
 
-fn main() {
+fn main(rt: HostRuntime) -> io::Result<()> {
     let mut script = buffers::script();
-    let n = io::read_full(STDIN_FILENO, &mut script);
+    let n = console::read_full(&mut rt.stdin(), &mut script)?;
     if buffers::MOST_SCRIPT < n {
-        console::print_refused(Refusal::InvalidBuffer);
-        return;
+        return console::print_refused(&rt, Refusal::InvalidBuffer);
     }
     let mut area = [0; 1_048_576];
     let mut directory = [0; 98_304];
@@ -64,11 +66,12 @@ fn main() {
     let mut transactions = [0; 98_304];
     let mut table = [0; 327_680];
     run(
+        &rt,
         &script[..n],
         &mut area,
         &mut directory,
         &mut entries,
         &mut transactions,
         &mut table,
-    );
+    )
 }

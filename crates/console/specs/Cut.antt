@@ -1,5 +1,5 @@
 -- A text cut at the first byte of a kind.
-use Rattle.std.specs.Prelude.{ℕ, suc, ◌+◌, cond, List, [], ◌∷◌, eqb, ltb, length}
+use Rattle.std.specs.Prelude.{◌≡◌, ℕ, suc, ◌+◌, ◌≤◌, cond, List, [], ◌∷◌, eqb, ltb, length, take}
 use Rattle.console.specs.declared.Cut.{Cut}
 
 -- how many bytes stand before the first b, all of them where there is none
@@ -14,3 +14,8 @@ cut_of b text =
       before = before_of b text;
       passed = cond (ltb (before_of b text) (length text)) (before_of b text + 1) (before_of b text);
     }
+
+-- the first n bytes can be lent by their count, and there are n of them. The second part follows from the first, and
+-- spares a caller that lends them a proof
+abbrev pub IsPrefixLen : ℕ → List ℕ → Type 0
+IsPrefixLen n text = (n ≤ length text) × (n ≡ length (take n text))

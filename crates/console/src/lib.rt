@@ -1,13 +1,16 @@
-// What the programs share: a text cut at a byte, and lines on standard output. No contract can say what is written,
-// so the functions that print promise only that they end.
+// What the programs share: a text cut at a byte, an input read into a buffer, and lines on standard output. No contract
+// can say what is written, so the functions that print promise only that they end. Their error is that of the write that
+// failed, and what was written before it stays.
 #![tactic(auto)]
 
-ghost use Rattle.std.specs.Prelude.{◌≡◌, ◌<◌, ◌≤◌, length};
-ghost use Rattle.io.specs.Counts.{IsPrefixLen};
-ghost use Rattle.console.specs.Cut.{before_of, cut_of};
+ghost use Rattle.std.specs.Prelude.{◌≡◌, ◌<◌, ◌≤◌, length, take, IfOk};
+ghost use Rattle.std.specs.Io.{ReadsAtMost};
+ghost use Rattle.std.specs.Io.KnownBytes.{Consumes, IsAtEnd};
+ghost use Rattle.console.specs.Cut.{IsPrefixLen, before_of, cut_of};
 
-use libc::STDOUT_FILENO;
 use refusal::Refusal;
+use std::io;
+use std::io::Read;
 
 mod report;
 
@@ -55,40 +58,59 @@ pub fn cut_at(text: &[u8], byte: u8) -> Cut
     }
 }
 
+// Reads until the buffer is full or the input ends, and returns how many bytes it put at the buffer's start: those that
+// the reader had to give, and all of them where there is room left. After an error, that of the read that failed, the
+// buffer may hold anything.
+pub fn read_full<R: Read>(reader: &mut R, buf: &mut [u8]) -> io::Result<usize>
+    ensures bound { ReadsAtMost result buf.new }
+    ensures bytes { IfOk result (λ n. Consumes (R.remaining reader.old) (R.remaining reader.new) (take n buf.new)) }
+    ensures end { IfOk result (λ n. n < length buf.old → IsAtEnd (R.remaining reader.new)) }
+{
+    let mut done = 0;
+    while done < buf.len() {
+        let n = reader.read(&mut buf[done..])?;
+        if n == 0 {
+            return Ok(done);
+        }
+        done += n;
+    }
+    Ok(done)
+}
+
 // A word, then each number after a space, then a line feed.
-pub fn print_line(word: &[u8], numbers: &[u64]) {
-    io::write_all(STDOUT_FILENO, word);
+pub fn print_line(rt: &impl Print, word: &[u8], numbers: &[u64]) -> io::Result<()> {
+    rt.write_all(word)?;
     let mut i = 0;
     while i < numbers.len() {
-        print_number(numbers[i]);
+        print_number(rt, numbers[i])?;
         i += 1;
     }
-    end_line();
+    end_line(rt)
 }
 
-fn end_line() {
-    io::write_all(STDOUT_FILENO, b"\n");
+fn end_line(rt: &impl Print) -> io::Result<()> {
+    rt.write_all(b"\n")
 }
 
-fn print_number(number: u64) {
-    io::write_all(STDOUT_FILENO, b" ");
-    io::print_decimal(STDOUT_FILENO, number);
+fn print_number(rt: &impl Print, number: u64) -> io::Result<()> {
+    print!(rt; " {number}")
 }
 
-pub fn print_refused(refusal: Refusal) {
-    print_line(b"refused", &[refusal.number()]);
+pub fn print_refused(rt: &impl Print, refusal: Refusal) -> io::Result<()> {
+    print_line(rt, b"refused", &[refusal.number()])
 }
 
-fn print_segment(directory: &[u8], k: usize) {
+fn print_segment(rt: &impl Print, directory: &[u8], k: usize) -> io::Result<()> {
     let segment = directory::record::record_at(directory, k);
-    print_line(b"segment", &[segment.id, segment.start, segment.length]);
+    print_line(rt, b"segment", &[segment.id, segment.start, segment.length])
 }
 
 // `segment ID START LENGTH` for each used record.
-pub fn print_segments(directory: &[u8], used: usize) {
+pub fn print_segments(rt: &impl Print, directory: &[u8], used: usize) -> io::Result<()> {
     let mut k = 0;
     while k < used {
-        print_segment(directory, k);
+        print_segment(rt, directory, k)?;
         k += 1;
     }
+    Ok(())
 }

@@ -1,9 +1,9 @@
-// Lines into the log.
-ghost use Rattle.std.specs.Prelude.{◌≡◌, ◌+◌, ◌<◌, ◌≤◌, ◌^◌, length};
+// Lines into the log. A function that may print has the error of the write that failed, and the log stays as it then is.
+ghost use Rattle.std.specs.Prelude.{◌≡◌, ◌+◌, ◌<◌, ◌≤◌, ◌^◌, length, IfOk};
 
-use libc::STDOUT_FILENO;
 use refusal::Refusal;
 use segment::{Appended, Appending, Opened, SegmentManager};
+use std::io;
 
 const INSERT: u64 = 0;
 
@@ -19,14 +19,14 @@ pub struct Logger {
     pub ended: bool,
 }
 
-fn print_bad(line: u64) {
-    console::print_line(b"bad line", &[line]);
+fn print_bad(rt: &impl Print, line: u64) -> io::Result<()> {
+    console::print_line(rt, b"bad line", &[line])
 }
 
-fn print_refused(refusal: Refusal, line: u64) {
-    io::write_all(STDOUT_FILENO, b"refused ");
-    io::print_decimal(STDOUT_FILENO, refusal.number());
-    console::print_line(b" at line", &[line]);
+fn print_refused(rt: &impl Print, refusal: Refusal, line: u64) -> io::Result<()> {
+    let number = refusal.number();
+    print!(rt; "refused {number}")?;
+    console::print_line(rt, b" at line", &[line])
 }
 
 impl Logger {
@@ -55,82 +55,92 @@ impl Logger {
     }
 
     // The state after an append: one entry more, or the refusal printed and the logging ended.
-    fn after(self, appending: Appending, line: u64) -> Self
+    fn after(self, rt: &impl Print, appending: Appending, line: u64) -> io::Result<Self>
         requires { self.logged + 1 < 2 ^ 64 }
-        ensures { result.logged ≤ self.logged + 1 }
+        ensures { IfOk result (λ logger. logger.logged ≤ self.logged + 1) }
     {
         let manager = appending.manager;
         let answer = appending.answer;
         match answer {
-            Appended::Written { used, len: _ } => Logger {
+            Appended::Written { used, len: _ } => Ok(Logger {
                 manager,
                 used,
                 logged: self.logged + 1,
                 ended: false,
-            },
+            }),
             Appended::Refused(refusal) => {
-                print_refused(refusal, line);
-                Logger {
+                print_refused(rt, refusal, line)?;
+                Ok(Logger {
                     manager,
                     used: self.used,
                     logged: self.logged,
                     ended: true,
-                }
+                })
             }
         }
     }
 
     fn append(
         self,
+        rt: &impl Print,
         area: &mut [u8],
         directory: &mut [u8],
         kind: u64,
         line: u64,
         key: &[u8],
         value: &[u8],
-    ) -> Self
+    ) -> io::Result<Self>
         requires { self.logged + 1 < 2 ^ 64 }
-        ensures { result.logged ≤ self.logged + 1 }
+        ensures { IfOk result (λ logger. logger.logged ≤ self.logged + 1) }
     {
         let lsn = self.logged + 1;
         let appending = self.manager.append(
             area, directory, self.used, lsn, kind, line, line, key, b"", value,
         );
-        self.after(appending, line)
+        self.after(rt, appending, line)
     }
 
-    fn log(self, area: &mut [u8], directory: &mut [u8], line: u64, text: &[u8]) -> Self
+    fn log(
+        self,
+        rt: &impl Print,
+        area: &mut [u8],
+        directory: &mut [u8],
+        line: u64,
+        text: &[u8],
+    ) -> io::Result<Self>
         requires { self.logged + 2 < 2 ^ 64 }
-        ensures { result.logged ≤ self.logged + 2 }
+        ensures { IfOk result (λ logger. logger.logged ≤ self.logged + 2) }
     {
         let cut = console::cut_at(text, b' ');
         let before = cut.before;
         let passed = cut.passed;
         if before == text.len() {
-            print_bad(line);
-            return self;
+            print_bad(rt, line)?;
+            return Ok(self);
         }
         let inserted = self.append(
+            rt,
             area,
             directory,
             INSERT,
             line,
             &text[..before],
             &text[passed..],
-        );
+        )?;
         if inserted.ended {
-            return inserted;
+            return Ok(inserted);
         }
-        inserted.append(area, directory, COMMIT, line, b"", b"")
+        inserted.append(rt, area, directory, COMMIT, line, b"", b"")
     }
 }
 
 pub(crate) fn log_lines(
+    rt: &impl Print,
     logger: Logger,
     input: &[u8],
     area: &mut [u8],
     directory: &mut [u8],
-) -> Logger
+) -> io::Result<Logger>
     requires { (logger.logged ≡ 0) × (length input.now ≤ 262_144) }
 {
     let mut logger = logger;
@@ -140,11 +150,11 @@ pub(crate) fn log_lines(
         let cut = console::cut_at(&input[at..], b'\n');
         let end = at + cut.before;
         line += 1;
-        logger = logger.log(area, directory, line, &input[at..end]);
+        logger = logger.log(rt, area, directory, line, &input[at..end])?;
         if logger.ended {
-            return logger;
+            return Ok(logger);
         }
         at += cut.passed;
     }
-    logger
+    Ok(logger)
 }

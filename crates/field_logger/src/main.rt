@@ -2,7 +2,8 @@
 // rest of the line; line L is logged as transaction L with time L, an insert and its commit.
 //
 // The last line may lack its line feed. An empty line has no space, so it is a bad one. Key and value may be empty:
-// a line that begins with its only space logs an empty key. If a commit is refused, its insert stays logged.
+// a line that begins with its only space logs an empty key. If a commit is refused, its insert stays logged. A read or a
+// write that fails is the program's error, and ends the logging.
 #![tactic(auto)]
 
 mod buffers;
@@ -10,25 +11,24 @@ mod logger;
 
 ghost use Rattle.std.specs.Prelude.{◌≤◌, length};
 
-use libc::STDIN_FILENO;
 use logger::Logger;
+use std::io;
 
-fn run(input: &[u8], area: &mut [u8], directory: &mut [u8])
+fn run(rt: &impl Print, input: &[u8], area: &mut [u8], directory: &mut [u8]) -> io::Result<()>
     requires { length input.now ≤ 262_144 }
 {
-    let logger = logger::log_lines(Logger::open(area, directory), input, area, directory);
-    console::print_line(b"logged", &[logger.logged]);
-    console::print_segments(directory, logger.used);
+    let logger = logger::log_lines(rt, Logger::open(area, directory), input, area, directory)?;
+    console::print_line(rt, b"logged", &[logger.logged])?;
+    console::print_segments(rt, directory, logger.used)
 }
 
-fn main() {
+fn main(rt: HostRuntime) -> io::Result<()> {
     let mut input = buffers::input();
-    let n = io::read_full(STDIN_FILENO, &mut input);
+    let n = console::read_full(&mut rt.stdin(), &mut input)?;
     if buffers::MOST_INPUT < n {
-        console::print_line(b"refused", &[1]);
-        return;
+        return console::print_line(&rt, b"refused", &[1]);
     }
     let mut area = buffers::area();
     let mut directory = buffers::directory();
-    run(&input[..n], &mut area, &mut directory);
+    run(&rt, &input[..n], &mut area, &mut directory)
 }

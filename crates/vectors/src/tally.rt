@@ -1,4 +1,6 @@
 // How many vectors of a group were run, and how many of them held.
+use std::io;
+
 #[derive(Clone, Copy)]
 pub(crate) struct Tally {
     held: u64,
@@ -20,11 +22,10 @@ impl Tally {
     }
 
     // The group's line, from its name with a space behind it.
-    pub(crate) fn print(self, group: &[u8]) {
-        io::write_all(1, group);
-        io::print_decimal(1, self.held);
-        io::write_all(1, b" of ");
-        io::print_decimal(1, self.run);
-        io::write_all(1, b"\n");
+    pub(crate) fn print(self, rt: &impl Print, group: &[u8]) -> io::Result<()> {
+        rt.write_all(group)?;
+        let held = self.held;
+        let run = self.run;
+        println!(rt; "{held} of {run}")
     }
 }

@@ -12,10 +12,10 @@ pub returns-then-before-text : goal.returns-then-before-text
 unfolding cut_of
 returns-then-before-text c =
     let f = c.find-before in
-    (rw (← f.ensures.0, lt-ltb _ _ c.if-before-text.true), ((omega arith, sym (length-take-le _ _ f.ensures.1)), (omega arith, λ h. omega arith)))
+    record { value = rw (← f.ensures.value, lt-ltb _ _ c.if-before-text.true); prefix_len = (omega arith, sym (length-take-le _ _ f.ensures.upper_bound)); passed_in_bounds = omega arith; passed_nonzero = λ h. omega arith }
 
 pub returns : goal.returns
 unfolding cut_of
 returns c =
     let f = c.find-before in
-    (rw (← f.ensures.0, le-ltb _ _ c.if-before-text.false), ((omega arith, sym (length-take-le _ _ f.ensures.1)), (omega arith, λ h. omega arith)))
+    record { value = rw (← f.ensures.value, le-ltb _ _ c.if-before-text.false); prefix_len = (omega arith, sym (length-take-le _ _ f.ensures.upper_bound)); passed_in_bounds = omega arith; passed_nonzero = λ h. omega arith }

@@ -29,7 +29,7 @@ pub returns-then-text-i : goal.returns-then-text-i
 returns-then-text-i c =
     let a = c.args in
     let l = c.loop-i in
-    (omega (arith, found a.text.now a.byte l.i (omega arith) c.if-text-i.true), omega arith)
+    record { value = omega (arith, found a.text.now a.byte l.i (omega arith) c.if-text-i.true); upper_bound = omega arith }
 
 pub loop-i-preserved : goal.loop-i-preserved
 loop-i-preserved c =
@@ -41,4 +41,4 @@ pub returns : goal.returns
 returns c =
     let a = c.args in
     let l = c.loop-i in
-    (omega (arith, ended a.text.now a.byte l.i (omega arith)), omega arith)
+    record { value = omega (arith, ended a.text.now a.byte l.i (omega arith)); upper_bound = omega arith }

@@ -6,7 +6,7 @@ use borrow.Author.Rules.{rules}
 use Rattle.console.proofs.print_segments.Given as goal
 
 abbrev pub invariant-loop-k : goal.invariant-loop-k
-invariant-loop-k l = l.k ≤ l.used
+invariant-loop-k g l = l.k ≤ l.used
 
 abbrev pub decreases-loop-k : goal.decreases-loop-k
-decreases-loop-k l = l.used - l.k
+decreases-loop-k g l = l.used - l.k

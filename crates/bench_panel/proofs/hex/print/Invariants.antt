@@ -7,7 +7,7 @@ use borrow.Author.Rules.{rules}
 use Rattle.bench_panel.proofs.hex.print.Given as goal
 
 abbrev pub invariant-loop-at : goal.invariant-loop-at
-invariant-loop-at l = l.at ≤ length l.bytes
+invariant-loop-at g l = l.at ≤ length l.bytes
 
 abbrev pub decreases-loop-at : goal.decreases-loop-at
-decreases-loop-at l = length l.bytes - l.at
+decreases-loop-at g l = length l.bytes - l.at

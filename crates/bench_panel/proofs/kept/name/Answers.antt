@@ -7,4 +7,4 @@ use borrow.Author.Rules.{rules}
 use Rattle.bench_panel.proofs.kept.name.Goals as goal
 
 pub slice_bounds-name_into-end : goal.slice_bounds-name_into-end
-slice_bounds-name_into-end c = sym (length-take-le _ _ (omega arith))
+slice_bounds-name_into-end g c = sym (length-take-le _ _ (omega arith))

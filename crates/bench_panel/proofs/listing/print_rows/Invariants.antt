@@ -7,7 +7,7 @@ use borrow.Author.Rules.{rules}
 use Rattle.bench_panel.proofs.listing.print_rows.Given as goal
 
 abbrev pub invariant-loop-k : goal.invariant-loop-k
-invariant-loop-k l = l.k ≤ length l.table / 320
+invariant-loop-k g l = l.k ≤ length l.table / 320
 
 abbrev pub decreases-loop-k : goal.decreases-loop-k
-decreases-loop-k l = length l.table / 320 - l.k
+decreases-loop-k g l = length l.table / 320 - l.k

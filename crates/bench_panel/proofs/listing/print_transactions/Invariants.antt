@@ -6,7 +6,7 @@ use borrow.Author.Rules.{rules}
 use Rattle.bench_panel.proofs.listing.print_transactions.Given as goal
 
 abbrev pub invariant-loop-k : goal.invariant-loop-k
-invariant-loop-k l = l.k ≤ l.n
+invariant-loop-k g l = l.k ≤ l.n
 
 abbrev pub decreases-loop-k : goal.decreases-loop-k
-decreases-loop-k l = l.n - l.k
+decreases-loop-k g l = l.n - l.k

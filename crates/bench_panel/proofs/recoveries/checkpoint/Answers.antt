@@ -7,4 +7,4 @@ use borrow.Author.Rules.{rules}
 use Rattle.bench_panel.proofs.recoveries.checkpoint.Goals as goal
 
 pub slice_bounds-checkpoint_into-end : goal.slice_bounds-checkpoint_into-end
-slice_bounds-checkpoint_into-end c = sym (length-take-le _ _ (omega arith))
+slice_bounds-checkpoint_into-end g c = sym (length-take-le _ _ (omega arith))

@@ -7,7 +7,7 @@ use borrow.Author.Rules.{rules}
 use Rattle.bench_panel.proofs.turn.on_log.Goals as goal
 
 pub slice_bounds-answer-end-2 : goal.slice_bounds-answer-end-2
-slice_bounds-answer-end-2 c = sym (length-take-le _ _ (omega arith))
+slice_bounds-answer-end-2 g c = sym (length-take-le _ _ (omega arith))
 
 pub slice_bounds-answer-end-4 : goal.slice_bounds-answer-end-4
-slice_bounds-answer-end-4 c = sym (length-take-le _ _ (omega arith))
+slice_bounds-answer-end-4 g c = sym (length-take-le _ _ (omega arith))

@@ -6,5 +6,5 @@ use Rattle.bench_panel.proofs.words.line_at.Goals as goal
 
 pub returns : goal.returns
 returns c =
-    let passes = c.cut_at-cut.ensures.1.1.1 (omega arith) in
+    let passes = c.cut_at-cut.ensures.passed_nonzero (omega arith) in
     search rules

@@ -7,14 +7,14 @@ use borrow.Author.Rules.{rules}
 use Rattle.field_logger.proofs.logger.log_lines.Goals as goal
 
 pub loop-at-init : goal.loop-at-init
-loop-at-init c = (refl, refl, omega arith, omega arith, omega arith)
+loop-at-init g c = (refl, refl, omega arith, omega arith, omega arith)
 
 pub loop-at-smaller : goal.loop-at-smaller
-loop-at-smaller c =
-    let passes = c.cut_at-cut.ensures.1.1.1 (omega arith) in
+loop-at-smaller g c =
+    let passes = c.cut_at-cut.ensures.passed_nonzero (omega arith) in
     omega arith
 
 pub loop-at-preserved : goal.loop-at-preserved
-loop-at-preserved c =
-    let passes = c.cut_at-cut.ensures.1.1.1 (omega arith) in
+loop-at-preserved g c =
+    let passes = c.cut_at-cut.ensures.passed_nonzero (omega arith) in
     (search rules, search rules, omega arith, omega arith, omega arith)

@@ -9,7 +9,7 @@ use borrow.Author.Rules.{rules}
 use Rattle.field_logger.proofs.logger.log_lines.Given as goal
 
 abbrev pub invariant-loop-at : goal.invariant-loop-at
-invariant-loop-at l =
+invariant-loop-at g l =
     (length l.area ≡ length l.initial.area)
     × (length l.directory ≡ length l.initial.directory)
     × (l.at ≤ length l.input)
@@ -17,4 +17,4 @@ invariant-loop-at l =
     × (l.logger.logged ≤ 2 * l.line)
 
 abbrev pub decreases-loop-at : goal.decreases-loop-at
-decreases-loop-at l = length l.input - l.at
+decreases-loop-at g l = length l.input - l.at

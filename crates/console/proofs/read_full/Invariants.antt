@@ -1,0 +1,15 @@
+-- `console::read_full` meets its contract and ends: what it filled is what it consumed, and each turn that doesn't leave the
+-- loop fills a byte.
+-- Assumes nothing.
+use Rattle.std.proofs.Common.{◌≡◌, ◌-◌, ◌≤◌, length, take}
+use Rattle.std.specs.Io.KnownBytes.{Consumes}
+use Rattle.console.proofs.read_full.Given as goal
+
+abbrev pub invariant-loop-done : goal.invariant-loop-done
+invariant-loop-done g l =
+    (length l.buf ≡ length l.initial.buf)
+    × (l.done ≤ length l.buf)
+    × Consumes (g.R.Read.remaining l.initial.reader) (g.R.Read.remaining l.reader) (take l.done l.buf)
+
+abbrev pub decreases-loop-done : goal.decreases-loop-done
+decreases-loop-done g l = length l.buf - l.done
