@@ -20,7 +20,9 @@ SYNTAX = set(': = → × ↔ λ ∀ _ | let in unfold record Type where'.split()
 OPEN = set('Unit tt ⊥ absurd ¬'.split())
 PRIMITIVE = set('u8 u16 u32 u64 usize i8 i16 i32 i64 isize bool f32 f64'.split())
 RUST_WORD = re.compile(r"(?<!['\w])\b([A-Za-z_]\w*(?:::\w+)*)\b(?!\s*:)")
-RUST_SYNTAX = set('pub crate struct enum type const mut as'.split())
+RUST_SYNTAX = set('pub crate struct enum type const mut as impl'.split())
+# What Rattle has in every file without a `use`.
+PRELUDE = {'Print'}
 
 
 class Kit(NamedTuple):
@@ -386,9 +388,11 @@ def declaration_cites(declaration):
     return types_in(declaration.file, text, None)
 
 
-def types_in(file, text, self_type):
-    """The types in a piece of Rattle, each with its declaration."""
+def types_in(file, text, self_type, parameters=()):
+    """The types and bounds in a piece of Rattle, each with its declaration. A type parameter has none."""
     for word in RUST_WORD.findall(text):
+        if word in parameters:
+            continue
         path = tuple((self_type if word in ('Self', 'self') else word).split('::'))
         found = lookup(file, path) or lookup(file, path[:1])
         whole = file.uses.get(path[0], path[:1]) + path[1:]
@@ -396,6 +400,8 @@ def types_in(file, text, self_type):
             yield word, found
         elif len(whole) > 1 and whole[0] not in [*crates(), 'crate', 'super', 'self']:
             yield word, Kit('::'.join(whole[:-1]), whole[-1])
+        elif word in PRELUDE:
+            yield word, Kit('std', word)
         elif word not in PRIMITIVE | RUST_SYNTAX:
             fail(file.shown, f'`{word}` is no type that is known here')
 

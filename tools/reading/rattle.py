@@ -14,6 +14,7 @@ FUNCTION = re.compile(r'\b(pub\s+)?(?:(?:const|unsafe|extern)\s+)*fn\s+(\w+)')
 # A clause may have a name, as `ensures below { .. }`.
 HEADER = re.compile(r'\b(requires|ensures)\s+(?:\w+\s*)?\{|[{(\[;]')
 CLAUSE = re.compile(r'\b(?:ghost|requires|ensures)\b')
+GENERIC = re.compile(r'<([^<>()]*)>')
 BLOCK = re.compile(r'\b(?:impl(?:\s*<[^>]*>)?|mod)\s+(\w+)[^{;]*\{')
 DECLARED = re.compile(r'^(?:pub(?:\([^)]*\))?\s+)?(struct|enum|type|const)\s+(\w+)', re.M)
 USE = re.compile(r'^(ghost\s+|pub(?:\([^)]*\))?\s+)?use\s+([^;]*);', re.M)
@@ -76,6 +77,16 @@ class Function:
     @property
     def line(self):
         return self.file.line_of(self.start)
+
+    @property
+    def name_end(self):
+        return FUNCTION.match(self.file.bare, self.start).end()
+
+    @property
+    def type_parameters(self):
+        """The names in `<R: Read>`, where the function has that behind its name."""
+        found = GENERIC.match(self.file.bare, self.name_end)
+        return re.findall(r'(\w+)\s*(?::[^,]*)?(?:,|$)', found[1]) if found else []
 
     @property
     def signature_end(self):
