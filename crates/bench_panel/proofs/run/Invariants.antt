@@ -2,8 +2,6 @@
 -- Assumes nothing.
 use Prim.Native.Nat.{◌-◌, ◌≤◌}
 use lib.ListN.{length}
-use native.Mathlib.Omega.{arith}
-use borrow.Author.Rules.{rules}
 use Rattle.bench_panel.specs.Lent.{Within}
 use Rattle.bench_panel.proofs.run.Given as goal
 

@@ -1,13 +1,8 @@
 -- `console::find` meets its contract. The invariant: the bytes passed, and those before the byte in what is left, are those before it in the whole.
 -- Assumes nothing.
 use mathlib.Core.Path.{◌≡◌}
-use mathlib.Core.List.{List}
-use Prim.Native.Nat.{ℕ, suc, ◌+◌, ◌-◌, ◌≤◌, ◌<◌}
-use native.Mathlib.Numerals.{add-one}
-use native.Mathlib.Omega.{arith}
-use borrow.Author.Tests.{eq-eqb, ne_eqb}
-use lib.ListN.{length, drop, get_or}
-use lib.Seq.{drop-cons, drop-length}
+use Prim.Native.Nat.{◌+◌, ◌-◌, ◌≤◌}
+use lib.ListN.{length, drop}
 use Rattle.console.specs.Cut.{before_of}
 use Rattle.console.proofs.find.Given as goal
 

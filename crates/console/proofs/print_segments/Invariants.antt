@@ -1,8 +1,6 @@
 -- `console::print_segments` is safe and ends: each turn passes a record.
 -- Assumes nothing.
 use Prim.Native.Nat.{◌-◌, ◌≤◌}
-use native.Mathlib.Omega.{arith}
-use borrow.Author.Rules.{rules}
 use Rattle.console.proofs.print_segments.Given as goal
 
 abbrev pub invariant-loop-k : goal.invariant-loop-k

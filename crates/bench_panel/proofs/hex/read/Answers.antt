@@ -1,9 +1,7 @@
 -- `bench_panel::hex::read` is safe and ends: each turn stores one byte, and the target keeps its length.
-use mathlib.Core.Path.{◌≡◌, refl}
-use Prim.Native.Nat.{◌-◌, ◌≤◌}
-use lib.ListN.{length, length-set}
+use mathlib.Core.Path.{refl}
+use lib.ListN.{length-set}
 use native.Mathlib.Omega.{arith}
-use borrow.Author.Rules.{rules}
 use Rattle.bench_panel.proofs.hex.read.Goals as goal
 
 pub loop-i-init : goal.loop-i-init

@@ -1,10 +1,8 @@
 -- `bench_panel::hex::read` is safe and ends: each turn stores one byte, and the target keeps its length.
 -- Assumes nothing.
-use mathlib.Core.Path.{◌≡◌, refl}
+use mathlib.Core.Path.{◌≡◌}
 use Prim.Native.Nat.{◌-◌, ◌≤◌}
-use lib.ListN.{length, length-set}
-use native.Mathlib.Omega.{arith}
-use borrow.Author.Rules.{rules}
+use lib.ListN.{length}
 use Rattle.bench_panel.proofs.hex.read.Given as goal
 
 abbrev pub invariant-loop-i : goal.invariant-loop-i

@@ -1,10 +1,8 @@
 -- `bench_panel::hex::spell` meets its contract: each turn stores one byte's digits, and the text keeps its length.
-use mathlib.Core.Path.{◌≡◌, refl, sym}
-use Prim.Native.Nat.{◌-◌, ◌≤◌}
-use lib.ListN.{length, length-set}
+use mathlib.Core.Path.{refl, sym}
+use lib.ListN.{length-set}
 use lib.Seq.{length-take-le}
 use native.Mathlib.Omega.{arith}
-use borrow.Author.Rules.{rules}
 use Rattle.bench_panel.proofs.hex.spell.Goals as goal
 
 pub loop-i-init : goal.loop-i-init

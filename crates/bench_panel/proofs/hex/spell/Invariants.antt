@@ -1,11 +1,8 @@
 -- `bench_panel::hex::spell` meets its contract: each turn stores one byte's digits, and the text keeps its length.
 -- Assumes nothing.
-use mathlib.Core.Path.{◌≡◌, refl, sym}
+use mathlib.Core.Path.{◌≡◌}
 use Prim.Native.Nat.{◌-◌, ◌≤◌}
-use lib.ListN.{length, length-set}
-use lib.Seq.{length-take-le}
-use native.Mathlib.Omega.{arith}
-use borrow.Author.Rules.{rules}
+use lib.ListN.{length}
 use Rattle.bench_panel.proofs.hex.spell.Given as goal
 
 abbrev pub invariant-loop-i : goal.invariant-loop-i

@@ -3,7 +3,6 @@
 use mathlib.Core.Path.{sym}
 use lib.Seq.{length-take-le}
 use native.Mathlib.Omega.{arith}
-use borrow.Author.Rules.{rules}
 use Rattle.bench_panel.proofs.kept.name.Goals as goal
 
 pub slice_bounds-name_into-end : goal.slice_bounds-name_into-end

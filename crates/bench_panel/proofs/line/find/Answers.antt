@@ -1,8 +1,5 @@
 -- `bench_panel::line::find` meets its contract: a row ends where the table does or before. Each turn passes a byte.
-use Prim.Native.Nat.{◌+◌, ◌-◌, ◌≤◌}
-use lib.ListN.{length}
 use native.Mathlib.Omega.{arith}
-use borrow.Author.Rules.{rules}
 use Rattle.bench_panel.proofs.line.find.Goals as goal
 
 pub loop-at-init : goal.loop-at-init

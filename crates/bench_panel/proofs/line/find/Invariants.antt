@@ -2,8 +2,6 @@
 -- Assumes nothing.
 use Prim.Native.Nat.{◌+◌, ◌-◌, ◌≤◌}
 use lib.ListN.{length}
-use native.Mathlib.Omega.{arith}
-use borrow.Author.Rules.{rules}
 use Rattle.bench_panel.proofs.line.find.Given as goal
 
 abbrev pub invariant-loop-at : goal.invariant-loop-at

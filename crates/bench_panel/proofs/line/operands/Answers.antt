@@ -1,9 +1,7 @@
 -- `bench_panel::line::operands` is safe and ends: each turn passes an operand, and no line has more than there are places.
-use mathlib.Core.Path.{◌≡◌, refl}
-use Prim.Native.Nat.{◌-◌, ◌≤◌}
-use lib.ListN.{length, length-set}
+use mathlib.Core.Path.{refl}
+use lib.ListN.{length-set}
 use native.Mathlib.Omega.{arith}
-use borrow.Author.Rules.{rules}
 use Rattle.bench_panel.proofs.line.operands.Goals as goal
 
 pub loop-i-init : goal.loop-i-init

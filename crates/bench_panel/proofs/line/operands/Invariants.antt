@@ -1,10 +1,8 @@
 -- `bench_panel::line::operands` is safe and ends: each turn passes an operand, and no line has more than there are places.
 -- Assumes nothing.
-use mathlib.Core.Path.{◌≡◌, refl}
+use mathlib.Core.Path.{◌≡◌}
 use Prim.Native.Nat.{◌-◌, ◌≤◌}
-use lib.ListN.{length, length-set}
-use native.Mathlib.Omega.{arith}
-use borrow.Author.Rules.{rules}
+use lib.ListN.{length}
 use Rattle.bench_panel.proofs.line.operands.Given as goal
 
 abbrev pub invariant-loop-i : goal.invariant-loop-i

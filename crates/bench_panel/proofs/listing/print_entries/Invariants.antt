@@ -1,8 +1,6 @@
 -- `bench_panel::listing::print_entries` is safe and ends: each turn passes a record.
 -- Assumes nothing.
 use Prim.Native.Nat.{◌-◌, ◌≤◌}
-use native.Mathlib.Omega.{arith}
-use borrow.Author.Rules.{rules}
 use Rattle.bench_panel.proofs.listing.print_entries.Given as goal
 
 abbrev pub invariant-loop-k : goal.invariant-loop-k

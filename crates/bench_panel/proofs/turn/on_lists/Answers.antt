@@ -3,7 +3,6 @@
 use mathlib.Core.Path.{sym}
 use lib.Seq.{length-take-le}
 use native.Mathlib.Omega.{arith}
-use borrow.Author.Rules.{rules}
 use Rattle.bench_panel.proofs.turn.on_lists.Goals as goal
 
 pub slice_bounds-answer-end : goal.slice_bounds-answer-end

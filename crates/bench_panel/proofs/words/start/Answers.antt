@@ -1,8 +1,5 @@
 -- `bench_panel::words::start` meets its contract: no word begins behind the line's end.
-use Prim.Native.Nat.{◌-◌, ◌≤◌}
-use lib.ListN.{length}
 use native.Mathlib.Omega.{arith}
-use borrow.Author.Rules.{rules}
 use Rattle.bench_panel.proofs.words.start.Goals as goal
 
 pub loop-i-init : goal.loop-i-init

@@ -1,7 +1,5 @@
 -- `field_logger::logger::log_lines` is safe and ends. The invariant: a line passes a byte at least, and logs two entries at most,
-use mathlib.Core.Path.{◌≡◌, refl}
-use Prim.Native.Nat.{◌*◌, ◌-◌, ◌≤◌}
-use lib.ListN.{length}
+use mathlib.Core.Path.{refl}
 use native.Mathlib.Omega.{arith}
 use borrow.Author.Rules.{rules}
 use Rattle.field_logger.proofs.logger.log_lines.Goals as goal

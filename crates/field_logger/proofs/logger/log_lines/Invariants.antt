@@ -1,11 +1,9 @@
 -- `field_logger::logger::log_lines` is safe and ends. The invariant: a line passes a byte at least, and logs two entries at most,
 -- so the input's length bounds the numbers of lines and entries.
 -- Assumes nothing.
-use mathlib.Core.Path.{◌≡◌, refl}
+use mathlib.Core.Path.{◌≡◌}
 use Prim.Native.Nat.{◌*◌, ◌-◌, ◌≤◌}
 use lib.ListN.{length}
-use native.Mathlib.Omega.{arith}
-use borrow.Author.Rules.{rules}
 use Rattle.field_logger.proofs.logger.log_lines.Given as goal
 
 abbrev pub invariant-loop-at : goal.invariant-loop-at

@@ -1,7 +1,6 @@
 -- `report::one_segment::recover` meets its contract.
 -- Assumes nothing.
 use native.Mathlib.Omega.{arith}
-use borrow.Author.Rules.{rules}
 use borrow.Author.Tests.{lt-leb}
 use Rattle.report.specs.Report.{report_of}
 use Rattle.report.proofs.Told.{told}

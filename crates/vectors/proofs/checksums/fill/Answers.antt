@@ -1,5 +1,5 @@
 -- `vectors::checksums::fill` is safe and ends. The invariant: the length stays, and `i` is at most that.
-use Rattle.std.proofs.Common.{◌≡◌, ◌-◌, ◌≤◌, length, refl, arith, length-set, rules}
+use Rattle.std.proofs.Common.{refl, arith, length-set}
 use Rattle.vectors.proofs.checksums.fill.Goals as goal
 
 pub loop-i-init : goal.loop-i-init

@@ -1,6 +1,6 @@
 -- `vectors::checksums::fill` is safe and ends. The invariant: the length stays, and `i` is at most that.
 -- Assumes nothing.
-use Rattle.std.proofs.Common.{◌≡◌, ◌-◌, ◌≤◌, length, refl, arith, length-set, rules}
+use Rattle.std.proofs.Common.{◌≡◌, ◌-◌, ◌≤◌, length}
 use Rattle.vectors.proofs.checksums.fill.Given as goal
 
 abbrev pub invariant-loop-i : goal.invariant-loop-i

@@ -1,6 +1,6 @@
 -- `vectors::lines::ask` is safe and ends. The invariant: the line starts at or before `i`, which is at most the length.
 -- Assumes nothing.
-use Rattle.std.proofs.Common.{◌-◌, ◌≤◌, length, ⊎_elim, arith, rules}
+use Rattle.std.proofs.Common.{◌-◌, ◌≤◌, length}
 use Rattle.vectors.proofs.lines.ask.Given as goal
 
 abbrev pub invariant-loop-i : goal.invariant-loop-i
