@@ -67,7 +67,8 @@ fn on_lists(
     )
 }
 
-// Answers line K.
+// Answers line K. An error is that of the write that failed, and no other comes; the buffers are then as the line's call left
+// them.
 pub(crate) fn answer(
     rt: &impl Print,
     panel: Panel,
