@@ -1,4 +1,5 @@
 // The lines that make a call of the writer or truncate. What they are handed are the lent parts.
+// An error is that of the write that failed, and no other comes; the buffers are then as the call left them.
 use crate::line::Line;
 use crate::panel::Log;
 use crate::{line, printing};

@@ -1,5 +1,5 @@
 // The lines that need no buffer of the log: they set or show what the panel keeps, or work on names. An error is that of the
-// write that failed, and no other comes; nothing is lent here that it could leave changed.
+// write that failed, and no other comes; nothing of the panel's is lent here that it could leave changed.
 ghost use Rattle.std.specs.Prelude.{◌≤◌, IfOk};
 ghost use Rattle.bench_panel.specs.Lent.{Within};
 

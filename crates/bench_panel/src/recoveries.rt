@@ -1,5 +1,6 @@
 // The lines that read the log back: recovery, replay and checkpoint, and the lists that they leave. What they are handed
 // are the lent parts.
+// An error is that of the write that failed, and no other comes; the buffers are then as the call left them.
 use crate::line::Line;
 use crate::{buffers, line, listing, printing};
 use recovery::{Checkpointed, Recovered, Recovery};

@@ -1,4 +1,5 @@
 // The lines that work on the area and the directory as a whole, whatever is lent.
+// An error is that of the write that failed, and no other comes; the buffers are then as the call left them.
 use crate::line::Line;
 use crate::panel::Log;
 use crate::{buffers, line, printing, words};

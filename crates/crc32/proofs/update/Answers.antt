@@ -1,5 +1,4 @@
 -- `crc32::update` meets its contract.
--- what all bytes lead to from the start.
 -- Assumes nothing.
 use mathlib.Core.Path.{◌≡◌, refl, ap, ◌∙◌}
 use mathlib.Core.List.{List}

@@ -1,4 +1,5 @@
--- `field_logger::logger::log_lines` is safe and ends. The invariant: a line passes a byte at least, and logs two entries at most,
+-- `field_logger::logger::log_lines` is safe and ends.
+-- Assumes nothing.
 use mathlib.Core.Path.{refl}
 use native.Mathlib.Omega.{arith}
 use borrow.Author.Rules.{rules}
