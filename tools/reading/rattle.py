@@ -16,7 +16,9 @@ HEADER = re.compile(r'\b(requires|ensures)\s+(?:\w+\s*)?\{|[{(\[;]')
 CLAUSE = re.compile(r'\b(?:ghost|requires|ensures)\b')
 GENERIC = re.compile(r'<([^<>()]*)>')
 BLOCK = re.compile(r'\b(?:impl(?:\s*<[^>]*>)?|mod)\s+(\w+)[^{;]*\{')
-DECLARED = re.compile(r'^(?:pub(?:\([^)]*\))?\s+)?(struct|enum|type|const)\s+(\w+)', re.M)
+# An impl of a trait, as `impl From<u8> for Action`: the prover calls it ActionFromU8.
+TRAIT = re.compile(r'\bimpl(?:\s*<[^>]*>)?\s+(?:\w+::)*(\w+)(?:<(\w+)>)?\s+for\s+(\w+)')
+DECLARED = re.compile(r'^(?:pub(?:\([^)]*\))?\s+)?(struct|enum|trait|type|const)\s+(\w+)', re.M)
 USE = re.compile(r'^(ghost\s+|pub(?:\([^)]*\))?\s+)?use\s+([^;]*);', re.M)
 CHILD = re.compile(r'^(?:pub(?:\([^)]*\))?\s+)?mod\s+(\w+)\s*;', re.M)
 CLOSERS = {'(': ')', '[': ']', '{': '}'}
@@ -44,6 +46,15 @@ def closing(text, at):
         if depth == 0:
             return i
     return fail(repr(text[at:at + 60]), 'the bracket is never closed')
+
+
+def name_of(block, bare):
+    """The name of a module or of an impl."""
+    of_trait = TRAIT.match(bare, block.start())
+    if not of_trait:
+        return block[1]
+    trait, argument, of = of_trait.groups()
+    return ''.join(word[:1].upper() + word[1:] for word in (of, trait, argument or ''))
 
 
 @cache
@@ -103,7 +114,7 @@ class Function:
 
 @dataclass(eq=False)
 class Declaration:
-    """A struct, an enum, a type or a constant."""
+    """A struct, an enum, a trait, a type or a constant."""
     file: 'RtFile'
     kind: str
     name: str
@@ -122,7 +133,7 @@ class RtFile:
         self.bare = hide(self.text)
         steps = path.relative_to(ROOT / 'crates' / crate / 'src').with_suffix('').parts
         self.module = tuple(step for step in steps if step not in ('lib', 'main', 'mod'))
-        self.blocks = [(m[1], m.start(), closing(self.bare, m.end() - 1)) for m in BLOCK.finditer(self.bare)]
+        self.blocks = [(m, closing(self.bare, m.end() - 1)) for m in BLOCK.finditer(self.bare)]
         self.children = set(CHILD.findall(self.bare))
         self.uses, self.ghost_uses = {}, []
         for found in USE.finditer(self.bare):
@@ -156,13 +167,13 @@ class RtFile:
             fail(place, f'{found[2]} has no body')
         if CLAUSE.search(self.bare, at, part.start()):
             fail(place, f'{found[2]} has a clause of a form that is not followed')
-        around = [name for name, start, end in self.blocks if start < found.start() < end]
-        path = (self.crate, *self.module, *around, found[2])
+        around = [block for block, end in self.blocks if block.start() < found.start() < end]
+        path = (self.crate, *self.module, *(name_of(block, self.bare) for block in around), found[2])
         return Function(self, path, bool(found[1]), found.start(), part.start(), clauses)
 
     def read_declaration(self, found):
-        """To its semicolon; a struct or an enum with a brace ends where that closes."""
-        at, ends = found.end(), '{;' if found[1] in ('struct', 'enum') else ';'
+        """To its semicolon; a struct, an enum or a trait with a brace ends where that closes."""
+        at, ends = found.end(), '{;' if found[1] in ('struct', 'enum', 'trait') else ';'
         while self.bare[at] not in ends:
             at = closing(self.bare, at) + 1 if self.bare[at] in CLOSERS else at + 1
         end = at if self.bare[at] == ';' else closing(self.bare, at)

@@ -1,119 +1,96 @@
 // The lines that make a call of the writer or truncate. What they are handed are the lent parts.
-// An error is that of the write that failed, and no other comes; the buffers are then as the call left them.
-use crate::line::Line;
-use crate::panel::Log;
-use crate::{line, printing};
-use segment::{Appended, Appending, Opened, Opening};
-use std::io;
-use truncation::Truncated;
+use crate::command::Entry;
+use crate::fault::Fault;
+use crate::panel::{Log, Parts};
+use crate::printing;
+use segment::{Appending, Opening};
 
-// The name under which an opening or a rotation is answered.
-fn print_opened(rt: &impl Print, row: u64, used: usize) -> io::Result<()> {
-    if row == line::OPEN {
-        return printing::print_size(rt, b"opened", used);
+impl Log {
+    // After an opening or a rotation.
+    fn opened(&mut self, rt: &impl Print, name: &[u8], opening: Opening) -> Result<(), Fault> {
+        self.manager = opening.manager;
+        self.used = opening.answer?;
+        printing::print_size(rt, name, self.used)
     }
-    printing::print_size(rt, b"rotated", used)
-}
 
-fn opened(rt: &impl Print, log: Log, row: u64, opening: Opening) -> io::Result<Log> {
-    let manager = opening.manager;
-    let answer = opening.answer;
-    match answer {
-        Opened::Used(used) => {
-            print_opened(rt, row, used)?;
-            Ok(Log { manager, used })
-        }
-        Opened::Refused(refusal) => {
-            console::print_refused(rt, refusal)?;
-            let used = log.used;
-            Ok(Log { manager, used })
-        }
+    fn appended(&mut self, rt: &impl Print, appending: Appending) -> Result<(), Fault> {
+        self.manager = appending.manager;
+        let appended = appending.answer?;
+        self.used = appended.used;
+        printing::print_size(rt, b"appended", appended.len)
     }
 }
 
-fn appended(rt: &impl Print, log: Log, appending: Appending) -> io::Result<Log> {
-    let manager = appending.manager;
-    let answer = appending.answer;
-    match answer {
-        Appended::Written { used, len } => {
-            printing::print_size(rt, b"appended", len)?;
-            Ok(Log { manager, used })
-        }
-        Appended::Refused(refusal) => {
-            console::print_refused(rt, refusal)?;
-            let used = log.used;
-            Ok(Log { manager, used })
-        }
+impl Parts<'_> {
+    // `open`
+    pub(crate) fn open(&mut self, rt: &impl Print, log: &mut Log) -> Result<(), Fault> {
+        let area = &mut *self.area;
+        let directory = &mut *self.directory;
+        let opening = log.manager.open(area, directory, log.used);
+        log.opened(rt, b"opened", opening)
     }
-}
 
-fn truncated(rt: &impl Print, log: Log, answer: Truncated) -> io::Result<Log> {
-    match answer {
-        Truncated::Dropped { count, used } => {
-            printing::print_size(rt, b"truncated", count)?;
-            let manager = log.manager;
-            Ok(Log { manager, used })
-        }
-        Truncated::Refused(refusal) => {
-            console::print_refused(rt, refusal)?;
-            Ok(log)
-        }
+    // `rotate`
+    pub(crate) fn rotate(&mut self, rt: &impl Print, log: &mut Log) -> Result<(), Fault> {
+        let area = &mut *self.area;
+        let directory = &mut *self.directory;
+        let opening = log.manager.rotate(area, directory, log.used);
+        log.opened(rt, b"rotated", opening)
     }
-}
 
-// `open`, `rotate`
-fn open(log: Log, area: &mut [u8], directory: &mut [u8], row: u64) -> Opening {
-    if row == line::OPEN {
-        return log.manager.open(area, directory, log.used);
-    }
-    log.manager.rotate(area, directory, log.used)
-}
-
-// `raw LSN BYTES`, `entry LSN KIND TX TIME KEY OLD NEW`
-fn append(log: Log, area: &mut [u8], directory: &mut [u8], line: Line, bytes: &[u8]) -> Appending {
-    let lsn = line.values[0];
-    if line.row == line::RAW {
-        let data = line::bytes_at(line, 1, bytes);
-        return log
+    // `raw LSN BYTES`
+    pub(crate) fn append_raw(
+        &mut self,
+        rt: &impl Print,
+        log: &mut Log,
+        lsn: u64,
+        bytes: &[u8],
+    ) -> Result<(), Fault> {
+        let area = &mut *self.area;
+        let directory = &mut *self.directory;
+        let appending = log
             .manager
-            .append_entry(area, directory, log.used, lsn, data);
+            .append_entry(area, directory, log.used, lsn, bytes);
+        log.appended(rt, appending)
     }
-    let key = line::bytes_at(line, 4, bytes);
-    let old = line::bytes_at(line, 5, bytes);
-    let new = line::bytes_at(line, 6, bytes);
-    log.manager.append(
-        area,
-        directory,
-        log.used,
-        lsn,
-        line.values[1],
-        line.values[2],
-        line.values[3],
-        key,
-        old,
-        new,
-    )
-}
 
-pub(crate) fn answer(
-    rt: &impl Print,
-    log: Log,
-    area: &mut [u8],
-    directory: &mut [u8],
-    line: Line,
-    bytes: &[u8],
-) -> io::Result<Log> {
-    let row = line.row;
-    if row < line::RAW {
-        return opened(rt, log, row, open(log, area, directory, row));
+    // `entry LSN KIND TX TIME KEY OLD NEW`
+    pub(crate) fn append(
+        &mut self,
+        rt: &impl Print,
+        log: &mut Log,
+        entry: Entry,
+    ) -> Result<(), Fault> {
+        let area = &mut *self.area;
+        let directory = &mut *self.directory;
+        let appending = log.manager.append(
+            area,
+            directory,
+            log.used,
+            entry.lsn,
+            entry.kind,
+            entry.tx_id,
+            entry.timestamp,
+            entry.key,
+            entry.old_value,
+            entry.new_value,
+        );
+        log.appended(rt, appending)
     }
-    if row < line::TRUNCATE {
-        return appended(rt, log, append(log, area, directory, line, bytes));
+
+    // `truncate N`
+    pub(crate) fn truncate(
+        &mut self,
+        rt: &impl Print,
+        log: &mut Log,
+        checkpoint: u64,
+    ) -> Result<(), Fault> {
+        let area = &mut *self.area;
+        let directory = &mut *self.directory;
+        let truncated = truncation::truncate_segments_before(
+            area, directory, log.used, checkpoint,
+        )?;
+        log.used = truncated.used;
+        printing::print_size(rt, b"truncated", truncated.count)
     }
-    let checkpoint = line.values[0];
-    truncated(
-        rt,
-        log,
-        truncation::truncate_segments_before(area, directory, log.used, checkpoint),
-    )
 }

@@ -5,59 +5,56 @@
 // line. A read or a write that fails is the panel's error, and ends the script.
 #![tactic(auto)]
 
-mod buffers;
+ghost use Rattle.std.specs.Prelude.{◌≡◌, length};
+
 mod calls;
+mod command;
+mod fault;
 mod hex;
 mod kept;
-mod line;
 mod listing;
 mod panel;
 mod printing;
 mod recoveries;
-mod turn;
 mod whole;
-mod words;
 
-use panel::Panel;
+use fault::Fault;
+use panel::{Lent, Log, Panel};
 use refusal::Refusal;
+use segment::SegmentManager;
 use std::io;
 
-fn run(
-    rt: &impl Print,
-    script: &[u8],
-    area: &mut [u8; 1_048_576],
-    directory: &mut [u8; 98_304],
-    entries: &mut [u8; 524_288],
-    transactions: &mut [u8; 98_304],
-    table: &mut [u8; 327_680],
-) -> io::Result<()> {
-    let mut panel = Panel::new();
-    let mut k = 0;
-    let mut at = 0;
-    while at < script.len() {
-        let line = words::line_at(script, at);
-        let end = line.end;
-        k += 1;
-        panel = turn::answer(
-            rt,
-            panel,
-            area,
-            directory,
-            entries,
-            transactions,
-            table,
-            k,
-            &script[at..end],
-        )?;
-        at = line.next;
+const MOST_SCRIPT: usize = 1_048_576;
+
+// Answers line K, which counts all lines from 1.
+fn answer(rt: &impl Print, panel: &mut Panel, k: usize, text: &[u8]) -> io::Result<()> {
+    match panel.turn(rt, text) {
+        Ok(()) => Ok(()),
+        Err(Fault::BadLine) => console::print_line(rt, b"bad line", &[k as u64]),
+        Err(Fault::Refused(refusal)) => console::print_refused(rt, refusal),
+        Err(Fault::NotWritten(error)) => Err(error),
+    }
+}
+
+fn run(rt: &impl Print, script: &[u8], panel: &mut Panel) -> io::Result<()> {
+    for (i, text) in script.split(|byte| *byte == b'\n').enumerate() {
+        answer(rt, panel, i + 1, text)?;
     }
     Ok(())
 }
 
+// One byte more than may come, so that a longer script shows. The contract gives the length, which lending an array as a
+// slice needs.
+fn script_room() -> [u8; 1_048_577]
+    ensures { 1_048_577 ≡ length result }
+{
+    [0; MOST_SCRIPT + 1]
+}
+
 fn main(rt: HostRuntime) -> io::Result<()> {
-    let mut script = buffers::script();
+    let mut script = script_room();
     let n = console::read_full(&mut rt.stdin(), &mut script)?;
-    if buffers::MOST_SCRIPT < n {
+    if MOST_SCRIPT < n {
         return console::print_refused(&rt, Refusal::InvalidBuffer);
     }
     let mut area = [0; 1_048_576];
@@ -65,13 +62,18 @@ fn main(rt: HostRuntime) -> io::Result<()> {
     let mut entries = [0; 524_288];
     let mut transactions = [0; 98_304];
     let mut table = [0; 327_680];
-    run(
-        &rt,
-        &script[..n],
-        &mut area,
-        &mut directory,
-        &mut entries,
-        &mut transactions,
-        &mut table,
-    )
+    // The writer is new, and all is lent.
+    let mut panel = Panel {
+        log: Log {
+            manager: SegmentManager::with_default_size(),
+            used: 0,
+        },
+        lent: Lent::MOST,
+        area: &mut area,
+        directory: &mut directory,
+        entries: &mut entries,
+        transactions: &mut transactions,
+        table: &mut table,
+    };
+    run(&rt, &script[..n], &mut panel)
 }

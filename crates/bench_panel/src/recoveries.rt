@@ -1,149 +1,85 @@
 // The lines that read the log back: recovery, replay and checkpoint, and the lists that they leave. What they are handed
 // are the lent parts.
-// An error is that of the write that failed, and no other comes; the buffers are then as the call left them.
-use crate::line::Line;
-use crate::{buffers, line, listing, printing};
-use recovery::{Checkpointed, Recovered, Recovery};
+use crate::fault::Fault;
+use crate::panel::Parts;
+use crate::{listing, printing};
 use std::io;
 
-fn print_recovered(
-    rt: &impl Print,
-    recovered: Recovered,
-    entries: &[u8],
-    transactions: &[u8],
-) -> io::Result<()> {
-    let stats = recovered.stats;
-    console::print_report(rt, recovered)?;
-    listing::print_entries(rt, entries, recovered.entries)?;
-    listing::print_transactions(rt, transactions, stats.total_transactions)?;
-    console::print_line(rt, b"end", &[])
+// The checksum has eight digits.
+fn print_checksum(rt: &impl Print, bytes: &[u8]) -> io::Result<()> {
+    let checksum = crc32::crc32(bytes);
+    print!(rt; " {checksum:08x}")
 }
 
-fn print_recovery(
-    rt: &impl Print,
-    recovery: Recovery,
-    entries: &[u8],
-    transactions: &[u8],
-) -> io::Result<()> {
-    match recovery {
-        Recovery::Done(recovered) => print_recovered(rt, recovered, entries, transactions),
-        Recovery::Refused(refusal) => console::print_refused(rt, refusal),
+impl Parts<'_> {
+    // `recover`
+    pub(crate) fn recover(&mut self, rt: &impl Print, used: usize) -> Result<(), Fault> {
+        let area = &mut *self.area;
+        let directory = &mut *self.directory;
+        let entries = &mut *self.entries;
+        let transactions = &mut *self.transactions;
+        let recovered = recovery::recover(area, directory, used, entries, transactions)?;
+        console::print_report(rt, recovered)?;
+        listing::print_entries(rt, entries, recovered.entries)?;
+        listing::print_transactions(rt, transactions, recovered.stats.total_transactions)?;
+        console::print_line(rt, b"end", &[])?;
+        Ok(())
     }
-}
 
-fn recover(
-    rt: &impl Print,
-    used: usize,
-    area: &[u8],
-    directory: &[u8],
-    entries: &mut [u8],
-    transactions: &mut [u8],
-) -> io::Result<()> {
-    let recovery = recovery::recover(area, directory, used, entries, transactions);
-    print_recovery(rt, recovery, entries, transactions)
-}
-
-fn print_replayed(rt: &impl Print, recovered: Recovered, table: &[u8]) -> io::Result<()> {
-    console::print_report(rt, recovered)?;
-    listing::print_rows(rt, table)?;
-    console::print_line(rt, b"end", &[])
-}
-
-fn print_replay(rt: &impl Print, recovery: Recovery, table: &[u8]) -> io::Result<()> {
-    match recovery {
-        Recovery::Done(recovered) => print_replayed(rt, recovered, table),
-        Recovery::Refused(refusal) => console::print_refused(rt, refusal),
-    }
-}
-
-fn replay(
-    rt: &impl Print,
-    used: usize,
-    area: &[u8],
-    directory: &[u8],
-    entries: &mut [u8],
-    transactions: &mut [u8],
-    table: &mut [u8],
-) -> io::Result<()> {
-    let recovery = store::recover_into_store(area, directory, used, entries, transactions, table);
-    print_replay(rt, recovery, table)
-}
-
-fn print_checkpoint(rt: &impl Print, answer: Checkpointed, target: &[u8]) -> io::Result<()> {
-    match answer {
-        Checkpointed::At(number) => printing::print_written(rt, b"checkpoint", number, target),
-        Checkpointed::Refused(refusal) => console::print_refused(rt, refusal),
-    }
-}
-
-fn checkpoint_into(
-    rt: &impl Print,
-    used: usize,
-    area: &[u8],
-    directory: &[u8],
-    entries: &mut [u8],
-    transactions: &mut [u8],
-    stored: &[u8],
-    target: &mut [u8],
-) -> io::Result<()> {
-    let answer = recovery::checkpoint(area, directory, used, entries, transactions, stored, target);
-    print_checkpoint(rt, answer, target)
-}
-
-// `checkpoint BYTES SIZE`
-fn checkpoint(
-    rt: &impl Print,
-    used: usize,
-    area: &[u8],
-    directory: &[u8],
-    entries: &mut [u8],
-    transactions: &mut [u8],
-    line: Line,
-    bytes: &[u8],
-) -> io::Result<()> {
-    let stored = line::bytes_at(line, 0, bytes);
-    let n = line.values[1] as usize;
-    if buffers::TARGET < n {
-        return line.print_bad(rt);
-    }
-    let mut target = buffers::target();
-    checkpoint_into(
-        rt,
-        used,
-        area,
-        directory,
-        entries,
-        transactions,
-        stored,
-        &mut target[..n],
-    )
-}
-
-pub(crate) fn answer(
-    rt: &impl Print,
-    used: usize,
-    area: &[u8],
-    directory: &[u8],
-    entries: &mut [u8],
-    transactions: &mut [u8],
-    table: &mut [u8],
-    line: Line,
-    bytes: &[u8],
-) -> io::Result<()> {
-    let row = line.row;
-    match row {
-        line::RECOVER => recover(rt, used, area, directory, entries, transactions),
-        line::REPLAY => replay(rt, used, area, directory, entries, transactions, table),
-        line::CHECKPOINT => checkpoint(
-            rt,
-            used,
+    // `replay`
+    pub(crate) fn replay(&mut self, rt: &impl Print, used: usize) -> Result<(), Fault> {
+        let area = &mut *self.area;
+        let directory = &mut *self.directory;
+        let entries = &mut *self.entries;
+        let transactions = &mut *self.transactions;
+        let table = &mut *self.table;
+        let recovered = store::recover_into_store(
             area,
             directory,
+            used,
             entries,
             transactions,
-            line,
-            bytes,
-        ),
-        _ => listing::print_checksums(rt, entries, transactions, table),
+            table,
+        )?;
+        console::print_report(rt, recovered)?;
+        listing::print_rows(rt, table)?;
+        console::print_line(rt, b"end", &[])?;
+        Ok(())
+    }
+
+    // `checkpoint BYTES SIZE`
+    pub(crate) fn checkpoint(
+        &mut self,
+        rt: &impl Print,
+        used: usize,
+        stored: &[u8],
+        len: usize,
+    ) -> Result<(), Fault> {
+        let mut target = printing::TARGET;
+        let target = target.get_mut(..len).ok_or(Fault::BadLine)?;
+        let area = &mut *self.area;
+        let directory = &mut *self.directory;
+        let entries = &mut *self.entries;
+        let transactions = &mut *self.transactions;
+        let number = recovery::checkpoint(
+            area,
+            directory,
+            used,
+            entries,
+            transactions,
+            stored,
+            target,
+        )?;
+        printing::print_written(rt, b"checkpoint", number, target)
+    }
+
+    // `lists`
+    pub(crate) fn print_lists(&mut self, rt: &impl Print) -> Result<(), Fault> {
+        rt.write_all(b"lists")?;
+        print_checksum(rt, self.entries)?;
+        print_checksum(rt, self.transactions)?;
+        print_checksum(rt, self.table)?;
+        rt.write_all(b"\n")?;
+        Ok(())
     }
 }

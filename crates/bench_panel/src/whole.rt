@@ -1,111 +1,68 @@
 // The lines that work on the area and the directory as a whole, whatever is lent.
-// An error is that of the write that failed, and no other comes; the buffers are then as the call left them.
-use crate::line::Line;
-use crate::panel::Log;
-use crate::{buffers, line, printing, words};
+ghost use Rattle.std.specs.Prelude.{◌<◌, IfOk};
+
+use crate::fault::Fault;
+use crate::panel::Panel;
+use crate::printing;
+use directory::record;
 use directory::record::SegmentRecord;
-use std::io;
 
-// Whether so many bytes from a place on lie inside a buffer. No bytes may stand at its very end.
-fn is_inside(at: usize, count: usize, len: usize) -> bool {
-    if len < at {
-        return false;
-    }
-    count <= len - at
-}
+// The directory's records.
+const RECORDS: usize = 4_096;
 
-// `area PLACE BYTES`, `directory PLACE BYTES`
-fn put(rt: &impl Print, line: Line, bytes: &[u8], buffer: &mut [u8]) -> io::Result<()> {
-    let bytes = line::bytes_at(line, 1, bytes);
-    let at = line.values[0] as usize;
-    if !is_inside(at, bytes.len(), buffer.len()) {
-        return line.print_bad(rt);
-    }
-    fields::bytes::copy(buffer, at, bytes);
+// `area PLACE BYTES`, `directory PLACE BYTES`: the bytes lie inside the buffer. No bytes may stand at its very end.
+pub(crate) fn put(
+    rt: &impl Print,
+    buffer: &mut [u8],
+    at: usize,
+    bytes: &[u8],
+) -> Result<(), Fault> {
+    let rest = buffer.get_mut(at..).ok_or(Fault::BadLine)?;
+    let place = rest.get_mut(..bytes.len()).ok_or(Fault::BadLine)?;
+    place.copy_from_slice(bytes);
     printing::print_ok(rt)
 }
 
-// Whether record K is used, of those that the directory has.
-fn is_used(used: usize, k: usize) -> bool {
-    if buffers::RECORDS <= k {
-        return false;
+impl Panel<'_> {
+    // Record K if it is used, of those that the directory has.
+    fn record(&self, k: usize) -> Result<SegmentRecord, Fault>
+        ensures { IfOk result (λ _. k < 4096) }
+    {
+        if self.log.used <= k || RECORDS <= k {
+            return Err(Fault::BadLine);
+        }
+        Ok(record::record_at(self.directory, k))
     }
-    k < used
-}
 
-fn is_cut(k: usize, length: u64, n: u64) -> bool {
-    if buffers::RECORDS <= k {
-        return false;
+    // `cut K N`: the record's length becomes N, and it is the last used one.
+    pub(crate) fn cut(&mut self, rt: &impl Print, k: usize, length: u64) -> Result<(), Fault> {
+        let segment = self.record(k)?;
+        if segment.length < length {
+            return Err(Fault::BadLine);
+        }
+        record::put_record(self.directory, k, SegmentRecord { length, ..segment });
+        self.log.used = k + 1;
+        printing::print_ok(rt)
     }
-    n <= length
-}
 
-// `cut K N`: the record's length becomes N, and it is the last used one.
-fn cut(rt: &impl Print, log: Log, directory: &mut [u8], line: Line) -> io::Result<Log> {
-    let k = line.values[0] as usize;
-    let n = line.values[1];
-    let segment = directory::record::record_at(directory, k);
-    if log.used <= k {
-        line.print_bad(rt)?;
-        return Ok(log);
+    // `segments`
+    pub(crate) fn print_segments(&self, rt: &impl Print) -> Result<(), Fault> {
+        if RECORDS < self.log.used {
+            return Err(Fault::BadLine);
+        }
+        console::print_segments(rt, self.directory, self.log.used)?;
+        printing::print_size(rt, b"used", self.log.used)
     }
-    if !is_cut(k, segment.length, n) {
-        line.print_bad(rt)?;
-        return Ok(log);
-    }
-    let shorter = SegmentRecord {
-        id: segment.id,
-        start: segment.start,
-        length: n,
-    };
-    directory::record::put_record(directory, k, shorter);
-    printing::print_ok(rt)?;
-    let manager = log.manager;
-    Ok(Log {
-        manager,
-        used: k + 1,
-    })
-}
 
-fn segments(rt: &impl Print, log: Log, directory: &[u8], line: Line) -> io::Result<()> {
-    let used = log.used;
-    if buffers::RECORDS < used {
-        return line.print_bad(rt);
+    // `image K`
+    pub(crate) fn print_image(&self, rt: &impl Print, k: usize) -> Result<(), Fault> {
+        let segment = self.record(k)?;
+        let rest = self
+            .area
+            .get(segment.start as usize..)
+            .ok_or(Fault::BadLine)?;
+        let image = rest.get(..segment.length as usize).ok_or(Fault::BadLine)?;
+        printing::print_bytes(rt, b"image", image)?;
+        Ok(())
     }
-    console::print_segments(rt, directory, used)?;
-    console::print_line(rt, b"used", &[used as u64])
-}
-
-// `image K`
-fn image(rt: &impl Print, log: Log, area: &[u8], directory: &[u8], line: Line) -> io::Result<()> {
-    let k = line.values[0] as usize;
-    if !is_used(log.used, k) {
-        return line.print_bad(rt);
-    }
-    let segment = directory::record::record_at(directory, k);
-    let start = segment.start as usize;
-    let length = segment.length as usize;
-    if !is_inside(start, length, area.len()) {
-        return line.print_bad(rt);
-    }
-    printing::print_bytes(rt, b"image", words::part(area, start, length))
-}
-
-pub(crate) fn answer(
-    rt: &impl Print,
-    log: Log,
-    area: &mut [u8],
-    directory: &mut [u8],
-    line: Line,
-    bytes: &[u8],
-) -> io::Result<Log> {
-    let row = line.row;
-    match row {
-        line::AREA => put(rt, line, bytes, area)?,
-        line::DIRECTORY => put(rt, line, bytes, directory)?,
-        line::CUT => return cut(rt, log, directory, line),
-        line::SEGMENTS => segments(rt, log, directory, line)?,
-        _ => image(rt, log, area, directory, line)?,
-    }
-    Ok(log)
 }

@@ -8,7 +8,7 @@ use native.Mathlib.Omega.{arith}
 use borrow.Author.Tests.{eq-eqb, ne_eqb}
 use lib.Dec.{eqb}
 use lib.ListN.{length, length-map}
-use Rattle.fields.specs.declared.bytes.Ordering.TheVariants.{Less}
+use Rattle.std.specs.declared.cmp.Ordering.TheVariants.{Less}
 use Rattle.fields.proofs.Cases.{case_b}
 use Rattle.records.specs.Sorted.{compare_numbers, put, record_of, Before, Ascends}
 use Rattle.records.specs.Dense.{All}

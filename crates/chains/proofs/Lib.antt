@@ -1,4 +1,3 @@
-pub mod Places
 pub mod Turns
 pub mod Last
 pub mod Records
@@ -8,3 +7,4 @@ pub mod Unlinking
 pub mod Linking
 pub mod Reading
 pub mod Walk
+pub mod Places

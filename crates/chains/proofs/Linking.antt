@@ -11,8 +11,8 @@ use lib.Seq.{append_snoc}
 use Rattle.records.specs.Dense.{dense, All}
 use Rattle.records.specs.Sorted.{compare_numbers, place_of, put, Ascends}
 use Rattle.records.specs.Halving.{found_in}
-use Rattle.records.specs.declared.Found.{Found}
-use Rattle.records.specs.declared.Found.TheVariants.{At, Gap}
+use Rattle.std.specs.declared.result.Result.{Result}
+use Rattle.std.specs.declared.result.Result.TheVariants.{Ok, Err}
 use Rattle.records.proofs.Dense.{all_at}
 use Rattle.records.proofs.Sorted.{numbers_order, place_at, place_gap}
 use Rattle.records.proofs.Halving.{halve_place}
@@ -41,7 +41,7 @@ found_linked T i es number ls a bs =
 -- one entry among others goes before the first of its transaction
 link_standing : (E T : ℕ) (pre : List LinkedEntry) (e : EntryRecord) (post : List LinkedEntry) (before : List LinkedTransaction) (l : LinkedTransaction) (after : List LinkedTransaction) (k j : ℕ)
     → length pre ≡ k → length before ≡ j → l.first < 2 ^ 56
-    → link_at (At j) (lent (dense linked_entry_bytes E (pre ++ (entry_to e 0 ∷ post))) (dense linked_transaction_bytes T (before ++ (l ∷ after)))) k
+    → link_at (Ok j) (lent (dense linked_entry_bytes E (pre ++ (entry_to e 0 ∷ post))) (dense linked_transaction_bytes T (before ++ (l ∷ after)))) k
     ≡ lent (dense linked_entry_bytes E (pre ++ (entry_to e l.first ∷ post))) (dense linked_transaction_bytes T (before ++ (transaction_to l.transaction (suc k) ∷ after)))
 link_standing E T pre e post before l after k j m n h =
     rw (← m, ← n, link_read transactions_have T before l after h, link_written entries_have E pre (entry_to e 0) post l.first, link_written transactions_have T before l after (length pre + 1), add-one)
@@ -91,19 +91,19 @@ module _ (E T : ℕ) (es : List EntryRecord) (fs : All EntryFits es) (small : le
     behind = lent (dense linked_entry_bytes E (plain before ++ (entry_to e 0 ∷ linked_from (suc k) after))) (dense linked_transaction_bytes T ls)
 
     -- a number of the log has its transaction, so none is missing
-    link_placed : (f : Found) → place_of compare_numbers linked_number e.tx_id ls ≡ f → link_at f behind k ≡ linked_behind before (e ∷ after)
+    link_placed : (f : Result ℕ ℕ) → place_of compare_numbers linked_number e.tx_id ls ≡ f → link_at f behind k ≡ linked_behind before (e ∷ after)
     unfolding linked_from
-    link_placed (At j) q =
+    link_placed (Ok j) q =
         let s = place_at compare_numbers linked_number e.tx_id ls j q in
         let b = all_at (Begun (suc k) after) s.before s.found s.after (rw s.whole at ls_begun) in
         let n : linked_number s.found ≡ e.tx_id = numbers_order.equal (linked_number s.found) e.tx_id s.equal in
         let first : s.found.first ≡ first_from (suc k) e.tx_id after = b.first ∙ ap (λ (v : ℕ). first_from (suc k) v after) n in
         let h : s.found.first < 2 ^ 56 = omega (arith, first_most (suc k) e.tx_id after, within) in
         let t = sym (s.changed (begins_here k e after) new) ∙ put_begun in
-        ap (λ (qs : List LinkedTransaction). link_at (At j) (lent behind.entries (dense linked_transaction_bytes T qs)) k) s.whole
+        ap (λ (qs : List LinkedTransaction). link_at (Ok j) (lent behind.entries (dense linked_transaction_bytes T qs)) k) s.whole
         ∙ link_standing E T (plain before) e (linked_from (suc k) after) s.before s.found s.after k j length_plain s.place h
         ∙ rw (first, t)
-    link_placed (Gap j) q =
+    link_placed (Err j) q =
         let m = place_gap compare_numbers linked_number e.tx_id ls j q in
         let t = ap length (sym (m.inserted (begins_here k e after) new) ∙ put_begun) in
         let w = ap length m.whole in

@@ -2,8 +2,7 @@
 -- Assumes nothing.
 use mathlib.Core.Path.{◌≡◌, sym, ◌∙◌}
 use mathlib.Core.List.{List}
-use Prim.Native.Nat.{ℕ, ◌+◌, ◌*◌, ◌/◌, ◌<◌, ◌≤◌, min}
-use native.Mathlib.Nat.{mul_comm, zero-mul, le-div_iff_mul-le, div-lt_iff_lt-mul}
+use Prim.Native.Nat.{ℕ, ◌+◌, ◌*◌, ◌≤◌, min}
 use native.Mathlib.Omega.{arith}
 use lib.Dec.{leb}
 use lib.ListN.{length, drop_of_length-le}
@@ -12,16 +11,6 @@ use Rattle.fields.specs.Le.{le_of, le_bytes, num_at}
 use Rattle.fields.proofs.Cases.{case_b, tests}
 use Rattle.fields.proofs.Stores.{sets_out}
 use Rattle.chains.specs.Link.{spare_at, with_spare}
-
--- where k records of a size end: at the front, past so many bytes, or within them
-pub records_none : (size k : ℕ) → size ≡ 0 → size * k ≡ 0
-records_none size k e = rw (e, zero-mul)
-
-pub records_past : (size n k : ℕ) → 0 < size → n / size < k → n < size * k
-records_past size n k h l = rw (mul_comm size k) ((div-lt_iff_lt-mul h).0 l)
-
-pub records_within : (size n k : ℕ) → 0 < size → k ≤ n / size → size * k ≤ n
-records_within size n k h l = rw (mul_comm size k) ((le-div_iff_mul-le h).0 l)
 
 -- past the end nothing is read and nothing written
 pub spare_read : (size offset : ℕ) (s : List ℕ) (k at : ℕ) → at ≡ min (size * k + offset) (length s) → num_at at 7 s ≡ spare_at size offset s k

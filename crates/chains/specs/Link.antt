@@ -4,8 +4,8 @@ use Rattle.std.specs.Prelude.{ℕ, zero, suc, ◌+◌, ◌*◌, List, drop}
 use Rattle.std.proofs.lemmas.List.Edits.{sets}
 use Rattle.fields.specs.Le.{le_bytes, num_at}
 use Rattle.records.specs.Halving.{found_in}
-use Rattle.records.specs.declared.Found.{Found}
-use Rattle.records.specs.declared.Found.TheVariants.{At, Gap}
+use Rattle.std.specs.declared.result.Result.{Result}
+use Rattle.std.specs.declared.result.Result.TheVariants.{Ok, Err}
 use Rattle.lists.specs.Entries.{entry_record_at}
 use Rattle.lists.specs.Admit.{order_in}
 
@@ -25,10 +25,10 @@ abbrev pub lent : (entries transactions : List ℕ) → Lent
 lent entries transactions = record { entries = entries; transactions = transactions }
 
 -- entry k goes before the first entry of its transaction
-abbrev pub link_at : Found → Lent → (k : ℕ) → Lent
-link_at (At t) l k =
+abbrev pub link_at : Result ℕ ℕ → Lent → (k : ℕ) → Lent
+link_at (Ok t) l k =
     lent (with_spare 32 25 l.entries k (spare_at 24 9 l.transactions t)) (with_spare 24 9 l.transactions t (k + 1))
-link_at (Gap t) l k = l
+link_at (Err t) l k = l
 
 unfoldable pub link_one : Lent → (m k : ℕ) → Lent
 link_one l m k = link_at (found_in (order_in l.transactions (entry_record_at (drop (32 * k) l.entries)).tx_id) m) l k

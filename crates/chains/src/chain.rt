@@ -2,9 +2,10 @@
 ghost use Rattle.std.specs.Prelude.{◌≡◌, ◌+◌, ◌^◌, ◌<◌};
 ghost use Rattle.chains.specs.Link.{lent, link_one, link_all, unlink_all};
 
+use crate::links::{put_spare_of, spare_of};
 use lists::entries::EntryRecord;
 use lists::transactions::TransactionRecord;
-use records::Found;
+use records::record::SpareRecord;
 
 // Entry k goes before the first entry of its transaction.
 fn link_one(entries: &mut [u8], k: usize, transactions: &mut [u8], m: usize)
@@ -12,24 +13,10 @@ fn link_one(entries: &mut [u8], k: usize, transactions: &mut [u8], m: usize)
     ensures { lent entries.new transactions.new ≡ link_one (lent entries.old transactions.old) m k }
 {
     let number = lists::entries::entry_at(entries, k).tx_id;
-    match lists::transactions::find(transactions, m, number) {
-        Found::At(t) => {
-            let first = crate::links::spare(
-                transactions,
-                TransactionRecord::SIZE,
-                TransactionRecord::SPARE,
-                t,
-            );
-            crate::links::put_spare(entries, EntryRecord::SIZE, EntryRecord::SPARE, k, first);
-            crate::links::put_spare(
-                transactions,
-                TransactionRecord::SIZE,
-                TransactionRecord::SPARE,
-                t,
-                (k + 1) as u64,
-            );
-        }
-        Found::Gap(_) => {}
+    if let Ok(t) = lists::transactions::find(transactions, m, number) {
+        let first = spare_of::<TransactionRecord>(transactions, t);
+        put_spare_of::<EntryRecord>(entries, k, first);
+        put_spare_of::<TransactionRecord>(transactions, t, (k + 1) as u64);
     }
 }
 
@@ -37,21 +24,17 @@ fn link_one(entries: &mut [u8], k: usize, transactions: &mut [u8], m: usize)
 pub fn link(entries: &mut [u8], n: usize, transactions: &mut [u8], m: usize)
     ensures { lent entries.new transactions.new ≡ link_all (lent entries.old transactions.old) m n }
 {
-    let mut k = n;
-    while 0 < k {
-        k -= 1;
+    for k in (0..n).rev() {
         link_one(entries, k, transactions, m);
     }
 }
 
 // The spare bytes of the first n records of a list become zero.
-fn unlink_list(s: &mut [u8], size: usize, offset: usize, n: usize)
-    ensures { s.new ≡ unlink_all size offset s.old n }
+fn unlink_list<R: SpareRecord>(s: &mut [u8], n: usize)
+    ensures { s.new ≡ unlink_all R.SIZE R.SPARE s.old n }
 {
-    let mut k = n;
-    while 0 < k {
-        k -= 1;
-        crate::links::put_spare(s, size, offset, k, 0);
+    for k in (0..n).rev() {
+        put_spare_of::<R>(s, k, 0);
     }
 }
 
@@ -59,11 +42,6 @@ fn unlink_list(s: &mut [u8], size: usize, offset: usize, n: usize)
 pub fn unlink(entries: &mut [u8], n: usize, transactions: &mut [u8], m: usize)
     ensures { lent entries.new transactions.new ≡ lent (unlink_all 32 25 entries.old n) (unlink_all 24 9 transactions.old m) }
 {
-    unlink_list(entries, EntryRecord::SIZE, EntryRecord::SPARE, n);
-    unlink_list(
-        transactions,
-        TransactionRecord::SIZE,
-        TransactionRecord::SPARE,
-        m,
-    );
+    unlink_list::<EntryRecord>(entries, n);
+    unlink_list::<TransactionRecord>(transactions, m);
 }

@@ -2,21 +2,14 @@
 ghost use Rattle.std.specs.Prelude.{◌≡◌, ◌+◌, ◌*◌, min};
 ghost use Rattle.chains.specs.Link.{spare_at, with_spare};
 
+use records::record::SpareRecord;
+
 // Where the spare bytes of record k begin, or the end of `len` bytes if they begin past it.
 fn place(len: usize, size: usize, offset: usize, k: usize) -> usize
     ensures { result ≡ min (size * k + offset) len }
 {
-    if len < offset {
-        return len;
-    }
-    if size == 0 {
-        return offset;
-    }
-    // Divided, since k records may be more bytes than a number holds.
-    if (len - offset) / size < k {
-        return len;
-    }
-    size * k + offset
+    // Saturating, since k records may be more bytes than a number holds.
+    size.saturating_mul(k).saturating_add(offset).min(len)
 }
 
 // The link of record k. Past the end it is 0.
@@ -32,4 +25,17 @@ pub fn put_spare(s: &mut [u8], size: usize, offset: usize, k: usize, link: u64)
 {
     let at = place(s.len(), size, offset, k);
     fields::put_le(s, at, 7, link);
+}
+
+// The same of records that have their size and place of the spare bytes by their type.
+pub fn spare_of<R: SpareRecord>(s: &[u8], k: usize) -> u64
+    ensures { result ≡ spare_at R.SIZE R.SPARE s.now k }
+{
+    spare(s, R::SIZE, R::SPARE, k)
+}
+
+pub fn put_spare_of<R: SpareRecord>(s: &mut [u8], k: usize, link: u64)
+    ensures { s.new ≡ with_spare R.SIZE R.SPARE s.old k link }
+{
+    put_spare(s, R::SIZE, R::SPARE, k, link);
 }

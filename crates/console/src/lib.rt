@@ -3,11 +3,13 @@
 // failed, and what was written before it stays.
 #![tactic(auto)]
 
-ghost use Rattle.std.specs.Prelude.{◌≡◌, ◌<◌, ◌≤◌, length, take, IfOk};
+ghost use Rattle.std.specs.Prelude.{◌≡◌, ◌==◌, ◌<◌, ◌≤◌, length, take, IfOk};
+ghost use Rattle.std.specs.List.{position};
 ghost use Rattle.std.specs.Io.{ReadsAtMost};
 ghost use Rattle.std.specs.Io.KnownBytes.{Consumes, IsAtEnd};
 ghost use Rattle.console.specs.Cut.{IsPrefixLen, before_of, cut_of};
 
+use directory::record::record_at;
 use refusal::Refusal;
 use std::io;
 use std::io::Read;
@@ -23,18 +25,10 @@ pub struct Cut {
     pub passed: usize,
 }
 
-fn find(text: &[u8], byte: u8) -> usize
-    ensures value { result ≡ before_of byte text.now }
-    ensures upper_bound { result ≤ length text.now }
+fn find(text: &[u8], byte: u8) -> Option<usize>
+    ensures { result ≡ position (λ x. x == byte) text.now }
 {
-    let mut i = 0;
-    while i < text.len() {
-        if text[i] == byte {
-            return i;
-        }
-        i += 1;
-    }
-    i
+    text.iter().position(|other| *other == byte)
 }
 
 // Cuts at the first such byte. A text without one is before the cut as a whole.
@@ -45,16 +39,10 @@ pub fn cut_at(text: &[u8], byte: u8) -> Cut
     ensures passed_in_bounds { result.passed ≤ length text.now }
     ensures passed_nonzero { 0 < length text.now → 0 < result.passed }
 {
-    let before = find(text, byte);
-    if before < text.len() {
-        return Cut {
-            before,
-            passed: before + 1,
-        };
-    }
+    let before = find(text, byte).unwrap_or(text.len());
     Cut {
         before,
-        passed: before,
+        passed: text.len().min(before + 1),
     }
 }
 
@@ -80,37 +68,21 @@ pub fn read_full<R: Read>(reader: &mut R, buf: &mut [u8]) -> io::Result<usize>
 // A word, then each number after a space, then a line feed.
 pub fn print_line(rt: &impl Print, word: &[u8], numbers: &[u64]) -> io::Result<()> {
     rt.write_all(word)?;
-    let mut i = 0;
-    while i < numbers.len() {
-        print_number(rt, numbers[i])?;
-        i += 1;
+    for number in numbers {
+        print!(rt; " {number}")?;
     }
-    end_line(rt)
-}
-
-fn end_line(rt: &impl Print) -> io::Result<()> {
     rt.write_all(b"\n")
-}
-
-fn print_number(rt: &impl Print, number: u64) -> io::Result<()> {
-    print!(rt; " {number}")
 }
 
 pub fn print_refused(rt: &impl Print, refusal: Refusal) -> io::Result<()> {
     print_line(rt, b"refused", &[refusal.number()])
 }
 
-fn print_segment(rt: &impl Print, directory: &[u8], k: usize) -> io::Result<()> {
-    let segment = directory::record::record_at(directory, k);
-    print_line(rt, b"segment", &[segment.id, segment.start, segment.length])
-}
-
 // `segment ID START LENGTH` for each used record.
 pub fn print_segments(rt: &impl Print, directory: &[u8], used: usize) -> io::Result<()> {
-    let mut k = 0;
-    while k < used {
-        print_segment(rt, directory, k)?;
-        k += 1;
+    for k in 0..used {
+        let segment = record_at(directory, k);
+        print_line(rt, b"segment", &[segment.id, segment.start, segment.length])?;
     }
     Ok(())
 }

@@ -13,8 +13,9 @@ use Rattle.fields.proofs.Cases.{case_b}
 use Rattle.records.specs.Dense.{All}
 use Rattle.directory.specs.Record.{end_of}
 use Rattle.directory.specs.Rule.{end_before, after_record, rule_from}
+use Rattle.std.specs.declared.option.Option.{Option}
 use Rattle.directory.specs.declared.rule.Last.{Last}
-use Rattle.directory.specs.declared.rule.Last.TheVariants as Lasts
+use Rattle.std.specs.declared.option.Option.TheVariants.{None}
 use Rattle.directory.proofs.Rules.{follows_says, rule_parts}
 use Rattle.directory.proofs.Sound.{sound_says}
 use Rattle.crash.specs.Request.{Request, encoded, Written}
@@ -71,7 +72,7 @@ module _ (cut : ℕ) where
       let k : cut < w.end = omega (arith, r.0) in
       kept_not cut w ws k ∙ rises_lost w.end ws k r.1
 
-left_rises : (area : ℕ) (last : Last) (ss : List Segment) → rule_from area last (map place_of ss) ≡ true → Rises (end_before last) (left_of ss)
+left_rises : (area : ℕ) (last : Option Last) (ss : List Segment) → rule_from area last (map place_of ss) ≡ true → Rises (end_before last) (left_of ss)
 unfolding left_of
 left_rises area last [] e = tt
 left_rises area last (s ∷ ss) e =
@@ -84,7 +85,7 @@ left_rises area last (s ∷ ss) e =
 pub entries_rise : (l : Life) (ss : List Segment) → Consists l ss → Rises 0 l.entries
 entries_rise l ss c =
     let s = sound_says (length l.held.area) l.held.directory l.held.used c.holds.sound in
-    rw c.entries (left_rises (length l.held.area) Lasts.NoSegment ss (rw (← c.holds.records) s.rule))
+    rw c.entries (left_rises (length l.held.area) None ss (rw (← c.holds.records) s.rule))
 
 -- ---- what appends add
 

@@ -14,7 +14,7 @@ use Rattle.directory.specs.Record.{records_of, end_of}
 use Rattle.directory.specs.Rule.{test_of, rule_from, after_record}
 use Rattle.directory.specs.declared.lent.Lent.TheVariants as Lends
 use Rattle.directory.specs.declared.record.SegmentRecord.{SegmentRecord}
-use Rattle.directory.specs.declared.rule.Last.TheVariants as Lasts
+use Rattle.std.specs.declared.option.Option.TheVariants.{None}
 use Rattle.directory.proofs.Records.{length_records, record_of, records_first}
 use Rattle.directory.proofs.Sound.{fits_says, sound_says, sound_so, sound_ends}
 use Rattle.crash.specs.Kept.{kept_by, torn_by, still_torn}
@@ -79,15 +79,15 @@ module _ (l : Life) (c : Cut) (before : List Segment) (it : Segment) (after : Li
   cut_is : it.place.start + c.n ≡ cut
   cut_is = rw it_is
 
-  rule : rule_from size Lasts.NoSegment (map place_of before ++ (it.place ∷ map place_of after)) ≡ true
+  rule : rule_from size None (map place_of before ++ (it.place ∷ map place_of after)) ≡ true
   rule = rw (← records_are) (sound_says size h.directory h.used is.holds.sound).rule
 
   ends : All (EndsBy cut) before
-  ends = ends_before size cut Lasts.NoSegment before it.place (map place_of after) (omega (arith, cut_is)) rule
+  ends = ends_before size cut None before it.place (map place_of after) (omega (arith, cut_is)) rule
 
   starts : All (StartsAt cut) after
   starts =
-      starts_after size cut (after_record it.place) after (omega (arith, cut_is, byte_in)) (rule_behind size Lasts.NoSegment before it.place (map place_of after) rule)
+      starts_after size cut (after_record it.place) after (omega (arith, cut_is, byte_in)) (rule_behind size None before it.place (map place_of after) rule)
 
   stands : All (Stands h.area) before × All (Stands h.area) (it ∷ after)
   stands = all_parts (Stands h.area) before (it ∷ after) is.holds.stand
@@ -115,7 +115,7 @@ module _ (l : Life) (c : Cut) (before : List Segment) (it : Segment) (after : Li
         directory = omega (arith, d.0, d.1);
         whole = d.0;
         used = omega (arith, cuts.directory_size);
-        rule = rw kept_records (rule_cut size (length c.area) c.n Lasts.NoSegment before it.place (map place_of after) rule (ends_before size (length c.area) Lasts.NoSegment before it.place (map place_of after) (omega (arith, cut_is, cut_in)) rule) (omega (arith, cut_is, cut_in)));
+        rule = rw kept_records (rule_cut size (length c.area) c.n None before it.place (map place_of after) rule (ends_before size (length c.area) None before it.place (map place_of after) (omega (arith, cut_is, cut_in)) rule) (omega (arith, cut_is, cut_in)));
       })
 
   cut_holds : Holds (cut_by c l).held (before ++ (short ∷ []))

@@ -12,6 +12,7 @@ use Rattle.directory.specs.Image.{segment_bytes}
 use Rattle.directory.specs.Record.{end_of}
 use Rattle.directory.specs.Rule.{end_before, rule_from, after_record}
 use Rattle.directory.specs.declared.record.SegmentRecord.{SegmentRecord}
+use Rattle.std.specs.declared.option.Option.{Option}
 use Rattle.directory.specs.declared.rule.Last.{Last}
 use Rattle.directory.proofs.Rules.{follows_says, follows_so, rule_parts}
 use Rattle.crash.specs.Kept.{kept_by, torn_by, still_torn}
@@ -30,19 +31,19 @@ abbrev pub StartsAt : (cut : ℕ) → Segment → Type 0
 StartsAt cut s = cut ≤ s.place.start
 
 -- where a record stands, all that is before it has ended
-start_over : (area : ℕ) (last : Last) (ss : List Segment) (p : SegmentRecord) (rest : List SegmentRecord) → rule_from area last (map place_of ss ++ (p ∷ rest)) ≡ true → end_before last ≤ p.start
+start_over : (area : ℕ) (last : Option Last) (ss : List Segment) (p : SegmentRecord) (rest : List SegmentRecord) → rule_from area last (map place_of ss ++ (p ∷ rest)) ≡ true → end_before last ≤ p.start
 start_over area last [] p rest e = (follows_says area last p (rule_parts area last p rest e).0).start
 start_over area last (s ∷ ss) p rest e =
     let t = rule_parts area last s.place (map place_of ss ++ (p ∷ rest)) e in
     omega (arith, (follows_says area last s.place t.0).start, start_over area (after_record s.place) ss p rest t.1)
 
-pub ends_before : (area cut : ℕ) (last : Last) (ss : List Segment) (p : SegmentRecord) (rest : List SegmentRecord) → p.start ≤ cut → rule_from area last (map place_of ss ++ (p ∷ rest)) ≡ true → All (EndsBy cut) ss
+pub ends_before : (area cut : ℕ) (last : Option Last) (ss : List Segment) (p : SegmentRecord) (rest : List SegmentRecord) → p.start ≤ cut → rule_from area last (map place_of ss ++ (p ∷ rest)) ≡ true → All (EndsBy cut) ss
 ends_before area cut last [] p rest h e = tt
 ends_before area cut last (s ∷ ss) p rest h e =
     let t = (rule_parts area last s.place (map place_of ss ++ (p ∷ rest)) e).1 in
     (omega (arith, start_over area (after_record s.place) ss p rest t), ends_before area cut (after_record s.place) ss p rest h t)
 
-pub starts_after : (area cut : ℕ) (last : Last) (ss : List Segment) → cut ≤ end_before last → rule_from area last (map place_of ss) ≡ true → All (StartsAt cut) ss
+pub starts_after : (area cut : ℕ) (last : Option Last) (ss : List Segment) → cut ≤ end_before last → rule_from area last (map place_of ss) ≡ true → All (StartsAt cut) ss
 starts_after area cut last [] h e = tt
 starts_after area cut last (s ∷ ss) h e =
     let t = rule_parts area last s.place (map place_of ss) e in
@@ -50,7 +51,7 @@ starts_after area cut last (s ∷ ss) h e =
     (omega (arith, f.start), starts_after area cut (after_record s.place) ss (omega (arith, f.start)) t.1)
 
 -- what stands behind some records
-pub rule_behind : (area : ℕ) (last : Last) (ss : List Segment) (p : SegmentRecord) (rest : List SegmentRecord) → rule_from area last (map place_of ss ++ (p ∷ rest)) ≡ true → rule_from area (after_record p) rest ≡ true
+pub rule_behind : (area : ℕ) (last : Option Last) (ss : List Segment) (p : SegmentRecord) (rest : List SegmentRecord) → rule_from area last (map place_of ss ++ (p ∷ rest)) ≡ true → rule_from area (after_record p) rest ≡ true
 rule_behind area last [] p rest e = (rule_parts area last p rest e).1
 rule_behind area last (s ∷ ss) p rest e =
     rule_behind area (after_record s.place) ss p rest (rule_parts area last s.place (map place_of ss ++ (p ∷ rest)) e).1
@@ -59,7 +60,7 @@ abbrev pub shortened : (n : ℕ) → SegmentRecord → SegmentRecord
 shortened n r = record { id = r.id; start = r.start; length = n }
 
 -- a shorter record follows where the longer one did, in an area that holds it
-pub rule_cut : (area other n : ℕ) (last : Last) (ss : List Segment) (p : SegmentRecord) (rest : List SegmentRecord) → rule_from area last (map place_of ss ++ (p ∷ rest)) ≡ true → All (EndsBy other) ss → p.start + n ≤ other → rule_from other last (map place_of ss ++ (shortened n p ∷ [])) ≡ true
+pub rule_cut : (area other n : ℕ) (last : Option Last) (ss : List Segment) (p : SegmentRecord) (rest : List SegmentRecord) → rule_from area last (map place_of ss ++ (p ∷ rest)) ≡ true → All (EndsBy other) ss → p.start + n ≤ other → rule_from other last (map place_of ss ++ (shortened n p ∷ [])) ≡ true
 unfolding rule_from
 rule_cut area other n last [] p rest e ends h =
     let f = follows_says area last p (rule_parts area last p rest e).0 in

@@ -7,7 +7,7 @@ use mathlib.Core.List.{List, [], ◌∷◌, Memᴰ}
 use Prim.Native.Nat.{◌≤◌}
 use native.Mathlib.Omega.{arith}
 use lib.ListN.{length}
-use Rattle.fields.specs.declared.bytes.Ordering.{Ordering}
+use Rattle.std.specs.declared.cmp.Ordering.{Ordering}
 use Rattle.records.specs.Dense.{All}
 use Rattle.records.specs.Sorted.{itself, put, Ascends}
 use Rattle.records.proofs.Sorted.{IsOrder, put_all, put_length, put_ascends, Has, put_has, put_had, no_more}

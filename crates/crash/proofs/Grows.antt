@@ -18,7 +18,7 @@ use Rattle.directory.specs.Image.{segment_bytes}
 use Rattle.directory.specs.Record.{record_bytes, records_of, end_of}
 use Rattle.plan.specs.declared.Write.{Write}
 use Rattle.plan.proofs.Plans.{IsBehind, Stored}
-use Rattle.segment.specs.Answer.{Added}
+use Rattle.segment.specs.declared.Appended.{Appended}
 use Rattle.segment.specs.Writing.{Log, written_by, append_entry_of, append_of}
 use Rattle.segment.specs.declared.SegmentManager.{SegmentManager}
 use Rattle.segment.proofs.Logs.{Accepts, entry_is_raw, entry_accepted, append_accepted, image_behind}
@@ -66,7 +66,7 @@ module _ (l m : Life) (r : Request) (w : SegmentManager) (is_open : l.writer ≡
   did_append : after_append r log l ≡ some m → Did l m r
   did_append e = told log refl log.answer refl e
     where
-      told : (g : Log) → log ≡ g → (a : Answer Added) → g.answer ≡ a → after_append r g l ≡ some m → Did l m r
+      told : (g : Log) → log ≡ g → (a : Answer Appended) → g.answer ≡ a → after_append r g l ≡ some m → Did l m r
       told g p (refused number) q e = let f = rw q at e in let z : ◌≡◌ {A = ℕ} 0 1 = cc in absurd (omega arith)
       told g p (accepted x) q e =
           let h = l.held in

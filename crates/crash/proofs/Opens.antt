@@ -15,8 +15,9 @@ use Rattle.directory.specs.Image.{segment_bytes}
 use Rattle.directory.specs.Record.{record_bytes}
 use Rattle.directory.specs.Rule.{test_of, after_record}
 use Rattle.directory.specs.declared.record.SegmentRecord.{SegmentRecord}
+use Rattle.std.specs.declared.option.Option as Std
 use Rattle.directory.specs.declared.rule.Last.{Last}
-use Rattle.directory.specs.declared.rule.Last.TheVariants as Lasts
+use Rattle.std.specs.declared.option.Option.TheVariants.{None, Some}
 use Rattle.directory.proofs.Rules.{last_of}
 use Rattle.plan.specs.Plan.{last_in, new_segment, new_segment_of}
 use Rattle.plan.proofs.Plans.{IdFits, open_says, last_in_is, open_stores}
@@ -28,16 +29,16 @@ use Rattle.crash.proofs.Images.{image_of, written_from}
 use Rattle.crash.proofs.Segments.{Segment, place_of, Stands, Consists, left_snoc, torn_snoc}
 
 -- the last segment's id has 8 bytes
-last_id : (area : List ℕ) (last : Last) (ss : List Segment) → IdFits last → All (Stands area) ss → IdFits (last_of last (map place_of ss))
+last_id : (area : List ℕ) (last : Std.Option Last) (ss : List Segment) → IdFits last → All (Stands area) ss → IdFits (last_of last (map place_of ss))
 unfolding last_of
 last_id area last [] i st = i
 last_id area last (s ∷ ss) i st = last_id area (after_record s.place) ss st.0.id st.1
 
 -- a new segment has no bytes yet
-new_length : (last : Last) → (new_segment last).length ≡ 0
+new_length : (last : Std.Option Last) → (new_segment last).length ≡ 0
 unfolding new_segment
-new_length Lasts.NoSegment = refl
-new_length (Lasts.Segment id end) = refl
+new_length None = refl
+new_length (Some before) = refl
 
 -- ---- what an accepted opening leaves
 
@@ -88,7 +89,7 @@ module _ (l m : Life) (ss : List Segment) (c : Consists l ss) where
   abbrev new : SegmentRecord → Segment
   new s = record { place = s; asked = [] }
 
-  last_is : last_of Lasts.NoSegment (map place_of ss) ≡ last_in h.directory h.used
+  last_is : last_of None (map place_of ss) ≡ last_in h.directory h.used
   last_is = rw (← c.holds.records) (last_in_is h.directory h.used)
 
   empty_stands : (s : SegmentRecord) → s.length ≡ 0 → s.id < 2 ^ 64 → Stands h.area (new s)
@@ -98,7 +99,7 @@ module _ (l m : Life) (ss : List Segment) (c : Consists l ss) where
   with_consists : (w : SegmentManager) (s : SegmentRecord) → new_segment_of size h.directory h.used ≡ accepted s → Consists (opened_with l w s) (ss ++ (new s ∷ []))
   unfolding kept_by torn_by written_from image_of
   with_consists w s e =
-      let id : IdFits (last_in h.directory h.used) = rw last_is at (last_id h.area Lasts.NoSegment ss tt c.holds.stand) in
+      let id : IdFits (last_in h.directory h.used) = rw last_is at (last_id h.area None ss tt c.holds.stand) in
       let q = open_stores size h.directory h.used s id e in
       let nothing : s.length ≡ 0 = rw (open_says size h.directory h.used s e).segment (new_length (last_in h.directory h.used)) in
       record {

@@ -10,7 +10,7 @@ use native.Mathlib.Omega.{arith}
 use lib.Dec.{eqb}
 use lib.ListN.{length}
 use Rattle.fields.proofs.Cases.{case_b}
-use Rattle.fields.specs.declared.bytes.Ordering.TheVariants.{Less}
+use Rattle.std.specs.declared.cmp.Ordering.TheVariants.{Less}
 use Rattle.records.specs.Dense.{All}
 use Rattle.records.specs.Sorted.{itself, compare_numbers, Ascends}
 use Rattle.records.proofs.Sorted.{less_numbers, numbers_order, rest_behind}

@@ -15,7 +15,7 @@ use Rattle.payload.proofs.Laws.{by_other, payload_most}
 use Rattle.entry.specs.Decode.{decode_of}
 use Rattle.entry.specs.Parts.{tx_of, kind_of}
 use Rattle.entry.specs.declared.WalEntry.{WalEntry}
-use Rattle.entry.specs.declared.decoding.Decoded.TheVariants as Decodes
+use Rattle.std.specs.declared.option.Option.TheVariants.{Some}
 use Rattle.entry.proofs.RoundTrip.{placed, decode_payload, well_formed_readable, placed_tx, placed_kind}
 use Rattle.crash.specs.Request.{Request, encoded}
 use Rattle.crash.proofs.Images.{Accepted}
@@ -47,7 +47,7 @@ pub record ReadBack (payload : List ℕ) (tx kind : ℕ) : Type 0 where
   pub fits : length payload < 256 ^ 8
   pub entry : WalEntry
   pub used : ℕ
-  pub decoded : decode_of payload ≡ Decodes.Entry entry used
+  pub decoded : decode_of payload ≡ Some (record { entry = entry; used = used })
   pub same_tx : tx_of entry ≡ tx
   pub same_kind : kind_of entry ≡ kind
 

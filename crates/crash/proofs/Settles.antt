@@ -19,7 +19,7 @@ use Rattle.payload.specs.Content.{Content, insert, update, delete, commit, abort
 use Rattle.payload.specs.Encode.{is_well_formed, payload_for}
 use Rattle.payload.proofs.Laws.{limits}
 use Rattle.entry.specs.Decode.{decode_of, content_at}
-use Rattle.entry.specs.declared.decoding.Decoded.TheVariants.{Entry}
+use Rattle.std.specs.declared.option.Option.TheVariants.{Some}
 use Rattle.entry.proofs.RoundTrip.{placed, well_formed_readable, decode_payload, content_payload}
 use Rattle.chains.specs.Chain.{entries_of}
 use Rattle.recovery.specs.Payload.{payload_in}
@@ -122,7 +122,7 @@ module _ (records : ℕ) (keys : List (List ℕ)) (room : length keys ≤ record
 payload_effect : (payload : List ℕ) (tx time : ℕ) (content : Option Content) → tx < 2 ^ 64 → time < 2 ^ 64 → is_well_formed content ≡ true → payload ≡ payload_for tx time content → effect_at payload (decode_of payload) ≡ effect_as content
 payload_effect payload tx time none hx ht w e = let z : ◌≡◌ {A = ℕ} 0 1 = cc in absurd (omega arith)
 payload_effect payload tx time (some content) hx ht w e =
-    let d : decode_of (payload_of tx time content) ≡ Entry (placed tx time content) (length (payload_of tx time content)) = rw append-nil at (decode_payload tx time hx ht [] content (well_formed_readable content w)) in
+    let d : decode_of (payload_of tx time content) ≡ Some (record { entry = placed tx time content; used = length (payload_of tx time content) }) = rw append-nil at (decode_payload tx time hx ht [] content (well_formed_readable content w)) in
     let c : content_at (payload_of tx time content) (placed tx time content) ≡ content = rw append-nil at (content_payload tx time hx ht [] content) in
     rw (e, d, c)
 

@@ -6,12 +6,6 @@ mod tables;
 ghost use Rattle.std.specs.Prelude.{◌≡◌};
 ghost use Rattle.crc32.specs.Crc.{bit_steps, register, crc32_of};
 
-fn wide(x: u8) -> u32
-    ensures { result ≡ x }
-{
-    x as u32
-}
-
 // The register after one byte, which is xored in already: what stands above the low byte only moves.
 fn one(x: u32) -> u32
     ensures { result ≡ bit_steps 8 x }
@@ -25,14 +19,13 @@ pub fn update(start: u32, data: &[u8]) -> u32
     ensures { result ≡ register start «data».now }
 {
     let mut crc = start;
-    let mut i = 0;
-    while i < data.len() {
-        crc = one(crc ^ wide(data[i]));
-        i += 1;
+    for &byte in data {
+        crc = one(crc ^ u32::from(byte));
     }
     crc
 }
 
+#[tactic(auto, unfolding(crate::specs::Crc::crc32_of))]
 pub fn crc32(data: &[u8]) -> u32
     ensures { result ≡ crc32_of «data».now }
 {

@@ -3,11 +3,10 @@
 use mathlib.Core.Path.{◌≡◌, refl, ap, ◌∙◌}
 use mathlib.Core.List.{List, [], ◌∷◌, ◌++◌, append_assoc}
 use Prim.Native.Nat.{ℕ, zero, suc, ◌+◌, ◌-◌, ◌*◌, ◌^◌, ◌<◌, ◌≤◌}
-use native.Mathlib.Nat.{add-zero}
 use native.Mathlib.Omega.{arith}
-use lib.ListN.{length, get_or, take, drop, set, length-append, length-drop, drop_of_length-le}
+use lib.ListN.{length, get_or, take, drop, set, length-append, length-drop}
 use lib.Seq.{sets, drop-drop, drop_at, set_at}
-use Rattle.fields.specs.Le.{Bytes, le_of, le_bytes, num_at}
+use Rattle.fields.specs.Le.{Bytes, le_bytes}
 use Rattle.fields.proofs.Numbers.{length_bytes, num_front, num_skip, num_below}
 use Rattle.fields.proofs.Stores.{sets_join, sets_front, drop-sets, num_before}
 use Rattle.directory.specs.Record.{record_at, record_bytes, records_of}
@@ -39,27 +38,14 @@ unfolding record_at
 record_held s b =
     record { id = num_below s 0 8 8 (omega arith) b; start = num_below s 8 8 8 (omega arith) b; length = num_below s 16 8 8 (omega arith) b }
 
--- ---- the code of one record
-
--- the record at an offset, by its fields
-pub record_is : (s : List ℕ) (at : ℕ) → ◌≡◌ {A = SegmentRecord} (record { id = num_at at 8 s; start = num_at (at + 8) 8 s; length = num_at (at + 16) 8 s }) (record_at (drop at s))
-unfolding record_at
-record_is s at = simp (drop-drop, add-zero)
-
--- past the end
-pub record_past : (s : List ℕ) (at : ℕ) → length s ≤ at → ◌≡◌ {A = SegmentRecord} (record { id = 0; start = 0; length = 0 }) (record_at (drop at s))
-unfolding record_at le_of
-record_past s at h = rw (drop_of_length-le s h)
-
 -- three numbers one after the other are a record
-pub put_three : (r : SegmentRecord) (s : List ℕ) (at : ℕ) → sets (sets (sets s at (le_bytes 8 r.id)) (at + 8) (le_bytes 8 r.start)) (at + 16) (le_bytes 8 r.length) ≡ sets s at (record_bytes r)
+pub put_three : (r : SegmentRecord) (s : List ℕ) → sets (sets (sets s 0 (le_bytes 8 r.id)) 8 (le_bytes 8 r.start)) 16 (le_bytes 8 r.length) ≡ sets s 0 (record_bytes r)
 unfolding record_bytes
-put_three r s at =
+put_three r s =
     let i = le_bytes 8 r.id in
     let t = le_bytes 8 r.start in
     let l = le_bytes 8 r.length in
-    sets_join (sets s at i) t l (at + 8) (at + 16) (rw length_bytes (omega arith))
-    ∙ sets_join s i (t ++ l) at (at + 8) (rw length_bytes)
+    sets_join (sets s 0 i) t l 8 16 (rw length_bytes (omega arith)) ∙ sets_join s i (t ++ l) 0 8 (rw length_bytes)
 
 -- ---- the records of the bytes
 

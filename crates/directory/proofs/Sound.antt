@@ -8,6 +8,7 @@ use native.Mathlib.Omega.{arith}
 use borrow.Author.Tests.{leb-true, le-leb, eqb-true, eq-eqb}
 use lib.ListN.{length, drop}
 use lib.Seq.{sets, length-sets}
+use Rattle.std.specs.declared.option.Option.TheVariants.{None}
 use Rattle.refusal.specs.Answer.{refused, sound}
 use Rattle.directory.specs.Lent.{size_of, most_of, fits_of}
 use Rattle.directory.specs.Record.{record_at, record_bytes, records_of, end_of}
@@ -15,7 +16,6 @@ use Rattle.directory.specs.Rule.{follows_of, end_before, rule_from, directory_ru
 use Rattle.directory.specs.declared.lent.Lent.{Lent}
 use Rattle.directory.specs.declared.lent.Lent.TheVariants.{Area, Directory}
 use Rattle.directory.specs.declared.record.SegmentRecord.{SegmentRecord}
-use Rattle.directory.specs.declared.rule.Last.TheVariants.{NoSegment}
 use Rattle.directory.proofs.Records.{Held, length_records, record_of, records_more}
 use Rattle.directory.proofs.Rules.{last_of, rule_snoc, rule_ends, rule_last}
 
@@ -36,12 +36,12 @@ pub record Sounds (a : ℕ) (d : List ℕ) (u : ℕ) : Type 0 where
   pub directory : length d ≤ 98_304
   pub whole : length d % 24 ≡ 0
   pub used : 24 * u ≤ length d
-  pub rule : rule_from a NoSegment (records_of u d) ≡ true
+  pub rule : rule_from a None (records_of u d) ≡ true
 
 picked : (s t : Bool) → cond s (cond t sound (refused 2)) (refused 1) ≡ sound → (s ≡ true) × (t ≡ true)
 picked true true e = (refl, refl)
-picked true false e = let z : ◌≡◌ {A = ℕ} 0 1 = cc in absurd (omega arith)
-picked false t e = let z : ◌≡◌ {A = ℕ} 0 1 = cc in absurd (omega arith)
+picked true false e = cc
+picked false t e = cc
 
 pub sound_says : (a : ℕ) (d : List ℕ) (u : ℕ) → test_of a d u ≡ sound → Sounds a d u
 unfolding test_of directory_rule
@@ -64,15 +64,15 @@ sound_so a d u s =
 pub sound_ends : (a : ℕ) (d : List ℕ) (u : ℕ) → test_of a d u ≡ sound → (k : ℕ) → k < u → end_of (record_at (drop (24 * k) d)) ≤ a
 sound_ends a d u e k h =
     let r = record_at (drop (24 * k) d) in
-    rw (record_of u d k r h) at (rule_ends a NoSegment (records_of u d) k r (sound_says a d u e).rule (rw length_records h))
+    rw (record_of u d k r h) at (rule_ends a None (records_of u d) k r (sound_says a d u e).rule (rw length_records h))
 
-pub sound_last : (a : ℕ) (d : List ℕ) (u : ℕ) → test_of a d u ≡ sound → end_before (last_of NoSegment (records_of u d)) ≤ a
-sound_last a d u e = rule_last a NoSegment (records_of u d) (omega arith) (sound_says a d u e).rule
+pub sound_last : (a : ℕ) (d : List ℕ) (u : ℕ) → test_of a d u ≡ sound → end_before (last_of None (records_of u d)) ≤ a
+sound_last a d u e = rule_last a None (records_of u d) (omega arith) (sound_says a d u e).rule
 
 -- ---- what keeps a directory sound
 
 -- record k is written, where those before it keep the rule and it follows them
-pub sound_stored : (a : ℕ) (d : List ℕ) (k u : ℕ) (r : SegmentRecord) → Sounds a d u → 24 * (k + 1) ≤ length d → Held r → rule_from a NoSegment (records_of k d) ≡ true → follows_of a (last_of NoSegment (records_of k d)) r ≡ true → test_of a (sets d (24 * k) (record_bytes r)) (k + 1) ≡ sound
+pub sound_stored : (a : ℕ) (d : List ℕ) (k u : ℕ) (r : SegmentRecord) → Sounds a d u → 24 * (k + 1) ≤ length d → Held r → rule_from a None (records_of k d) ≡ true → follows_of a (last_of None (records_of k d)) r ≡ true → test_of a (sets d (24 * k) (record_bytes r)) (k + 1) ≡ sound
 sound_stored a d k u r s l b e f =
     let n : length (sets d (24 * k) (record_bytes r)) ≡ length d = length-sets d (24 * k) (record_bytes r) in
     sound_so a (sets d (24 * k) (record_bytes r)) (k + 1)
@@ -81,5 +81,5 @@ sound_stored a d k u r s l b e f =
       directory = omega arith;
       whole = rw n s.whole;
       used = omega arith;
-      rule = rw (records_more k d r l b, rule_snoc a NoSegment (records_of k d) r, e, f);
+      rule = rw (records_more k d r l b, rule_snoc a None (records_of k d) r, e, f);
     })

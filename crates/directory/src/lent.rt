@@ -43,10 +43,6 @@ impl Lent {
         ensures { result ≡ fits_of self len }
     {
         let size = self.record_size();
-        let most = self.most();
-        if len % size != 0 {
-            return false;
-        }
-        len / size <= most
+        len % size == 0 && len / size <= self.most()
     }
 }

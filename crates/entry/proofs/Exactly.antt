@@ -11,11 +11,10 @@ use Rattle.fields.specs.Le.{Bytes, num_at}
 use Rattle.fields.proofs.Numbers.{field_back, num_below}
 use Rattle.payload.specs.Content.{kind_number, fixed_bytes, part_bytes, parts_bytes, payload_of, readable}
 use Rattle.entry.specs.Parts.{tx_of, time_of, kind_of}
-use Rattle.entry.specs.Decode.{bytes_at, end_of, decode_of, content_at}
+use Rattle.entry.specs.Decode.{bytes_at, end_of, decoded, decode_of, content_at}
 use Rattle.entry.specs.declared.Place.{Place}
 use Rattle.entry.specs.declared.WalEntry.{WalEntry}
 use Rattle.entry.specs.declared.WalEntry.TheVariants.{Insert, Update, Delete, Commit, Abort}
-use Rattle.entry.specs.declared.decoding.Decoded.TheVariants.{Entry}
 use Rattle.entry.proofs.Places.{PartIs, Laid, DecodedIs, decode_within}
 use Rattle.entry.proofs.RoundTrip.{behind, placed, Readable, decode_payload}
 
@@ -134,14 +133,14 @@ module _ (s : List ℕ) (bytes : Bytes s) where
 
 -- ---- exactly
 
-pub decode_exactly : (s : List ℕ) (e : WalEntry) (used : ℕ) → Bytes s → (decode_of s ≡ Entry e used) ↔ Begins s e used
+pub decode_exactly : (s : List ℕ) (e : WalEntry) (used : ℕ) → Bytes s → (decode_of s ≡ decoded e used) ↔ Begins s e used
 decode_exactly s e used bytes = (λ h. begins s bytes e used (decode_within s e used h), back)
   where
-    back : Begins s e used → decode_of s ≡ Entry e used
+    back : Begins s e used → decode_of s ≡ decoded e used
     back b =
         let p = payload_of (tx_of e) (time_of e) (content_at s e) in
         let whole : s ≡ p ++ drop used s = sym (take-append-drop used s) ∙ ap (λ x. x ++ drop used s) b.payload in
         let n : length p ≡ used = ap length (sym b.payload) ∙ length-take-le used s b.end in
         ap decode_of whole
         ∙ decode_payload (tx_of e) (time_of e) b.tx b.time (drop used s) (content_at s e) b.content
-        ∙ ap₂ Entry (sym b.places) n
+        ∙ ap₂ decoded (sym b.places) n

@@ -18,15 +18,14 @@ use Rattle.utf8.specs.Grammar.{is_utf8}
 use Rattle.payload.specs.Kind.{by_kind}
 use Rattle.payload.specs.Content.{Content, insert, update, delete, commit, abort, kind_number, fixed_bytes, part_bytes, payload_of, key_fits, value_fits, well_formed, readable}
 use Rattle.payload.specs.Encode.{Encoding, encoding, put_of, encode_of}
-use Rattle.payload.specs.declared.Encoded.TheVariants.{Written, NotWellFormed, NoRoom}
+use Rattle.std.specs.declared.option.Option.TheVariants.{Some}
+use Rattle.std.specs.declared.result.Result.TheVariants.{Ok, Err}
+use Rattle.payload.specs.declared.EncodeError.TheVariants.{NotWellFormed, NoRoom}
 use Rattle.entry.specs.Parts.{tx_of, kind_of}
-use Rattle.entry.specs.Decode.{bytes_at, part_at, key_at, pair_at, key_and_part, update_at, body_at, decode_of, content_at}
+use Rattle.entry.specs.Decode.{bytes_at, part_at, key_at, pair_at, decoded, key_and_part, update_at, body_at, decode_of, content_at}
 use Rattle.entry.specs.declared.Place.{Place}
 use Rattle.entry.specs.declared.WalEntry.{WalEntry}
 use Rattle.entry.specs.declared.WalEntry.TheVariants.{Insert, Update, Delete, Commit, Abort}
-use Rattle.entry.specs.declared.decoding.Decoded.TheVariants.{Entry}
-use Rattle.entry.specs.declared.decoding.Part.TheVariants.{At}
-use Rattle.entry.specs.declared.decoding.Pair.TheVariants.{Has}
 use Rattle.payload.proofs.Laws.{length_fixed, length_part, limits}
 use Rattle.entry.proofs.Places.{keyed}
 
@@ -43,7 +42,7 @@ module _ (pre bytes post : List ℕ) (at : ℕ) (here : length pre ≡ at) where
       let e : pre ++ ((le_bytes 8 (length bytes) ++ bytes) ++ post) ≡ (pre ++ le_bytes 8 (length bytes)) ++ (bytes ++ post) = simp append_assoc in
       rw (e, drop_at (pre ++ le_bytes 8 (length bytes)) (bytes ++ post) (at + 8) n, take_at bytes post (length bytes) refl)
 
-  part_read : length bytes < 2 ^ 64 → part_at (pre ++ (part_bytes bytes ++ post)) at ≡ At (behind at bytes)
+  part_read : length bytes < 2 ^ 64 → part_at (pre ++ (part_bytes bytes ++ post)) at ≡ Some (behind at bytes)
   unfolding part_at
   part_read fits =
       let s = pre ++ (part_bytes bytes ++ post) in
@@ -55,7 +54,7 @@ module _ (pre bytes post : List ℕ) (at : ℕ) (here : length pre ≡ at) where
       let k : length bytes ≤ length s - at - 8 = omega arith in
       rw (le-leb _ _ h, e, le-leb _ _ k)
 
-  key_read : length bytes < 2 ^ 64 → is_utf8 bytes ≡ true → key_at (pre ++ (part_bytes bytes ++ post)) at ≡ At (behind at bytes)
+  key_read : length bytes < 2 ^ 64 → is_utf8 bytes ≡ true → key_at (pre ++ (part_bytes bytes ++ post)) at ≡ Some (behind at bytes)
   key_read fits utf8 = keyed (pre ++ (part_bytes bytes ++ post)) at (behind at bytes) true (part_read fits) (ap is_utf8 part_bytes_lem ∙ utf8)
 
 -- ---- the numbers in front
@@ -101,7 +100,7 @@ placed tx time abort = Abort tx time
 
 -- a later part: what is done already stands between
 module _ (pre done bytes post : List ℕ) (at : ℕ) (here : length (pre ++ done) ≡ at) where
-  later_read : length bytes < 2 ^ 64 → part_at (pre ++ (done ++ (part_bytes bytes ++ post))) at ≡ At (behind at bytes)
+  later_read : length bytes < 2 ^ 64 → part_at (pre ++ (done ++ (part_bytes bytes ++ post))) at ≡ Some (behind at bytes)
   later_read fits = rw (← append_assoc pre done (part_bytes bytes ++ post)) (part_read (pre ++ done) bytes post at here fits)
 
   later_bytes : bytes_at (pre ++ (done ++ (part_bytes bytes ++ post))) (behind at bytes) ≡ bytes
@@ -115,10 +114,10 @@ module _ (kind tx time : ℕ) (key value rest : List ℕ) where
   second_at : length (fixed_bytes kind tx time ++ part_bytes key) ≡ 28 + length key
   second_at = rw (length-append, length_part, length_fixed) (omega arith)
 
-  key_of_two : is_utf8 key ≡ true → length key < 2 ^ 64 → key_at two 20 ≡ At (behind 20 key)
+  key_of_two : is_utf8 key ≡ true → length key < 2 ^ 64 → key_at two 20 ≡ Some (behind 20 key)
   key_of_two u k = key_read (fixed_bytes kind tx time) key (part_bytes value ++ rest) 20 (length_fixed kind tx time) k u
 
-  value_of_two : length value < 2 ^ 64 → part_at two (28 + length key) ≡ At (behind (28 + length key) value)
+  value_of_two : length value < 2 ^ 64 → part_at two (28 + length key) ≡ Some (behind (28 + length key) value)
   value_of_two v = later_read (fixed_bytes kind tx time) (part_bytes key) value rest (28 + length key) second_at v
 
   key_bytes_of_two : bytes_at two (behind 20 key) ≡ key
@@ -127,7 +126,7 @@ module _ (kind tx time : ℕ) (key value rest : List ℕ) where
   value_bytes_of_two : bytes_at two (behind (28 + length key) value) ≡ value
   value_bytes_of_two = later_bytes (fixed_bytes kind tx time) (part_bytes key) value rest (28 + length key) second_at
 
-  pair_of_two : is_utf8 key ≡ true → length key < 2 ^ 64 → length value < 2 ^ 64 → pair_at two ≡ Has (behind 20 key) (behind (28 + length key) value)
+  pair_of_two : is_utf8 key ≡ true → length key < 2 ^ 64 → length value < 2 ^ 64 → pair_at two ≡ Some (record { key = behind 20 key; part = behind (28 + length key) value })
   unfolding pair_at
   pair_of_two u k v = rw (key_of_two u k, value_of_two v)
 
@@ -135,7 +134,7 @@ module _ (kind tx time : ℕ) (key value rest : List ℕ) where
   length_two = rw (length-append, length-append, length_part, length_part, length_fixed) (omega arith)
 
 module _ (tx time : ℕ) (hx : tx < 2 ^ 64) (ht : time < 2 ^ 64) (rest : List ℕ) where
-  pub decode_payload : (content : Content) → Readable content → decode_of (payload_of tx time content ++ rest) ≡ Entry (placed tx time content) (length (payload_of tx time content))
+  pub decode_payload : (content : Content) → Readable content → decode_of (payload_of tx time content ++ rest) ≡ decoded (placed tx time content) (length (payload_of tx time content))
   unfolding payload_of by_kind key_and_part update_at readable
   decode_payload (insert key value) r =
       let f = fixed_bytes 0 tx time in
@@ -150,7 +149,7 @@ module _ (tx time : ℕ) (hx : tx < 2 ^ 64) (ht : time < 2 ^ 64) (rest : List �
       let e : (f ++ (part_bytes key ++ (part_bytes old ++ part_bytes new))) ++ rest ≡ two 1 tx time key old (part_bytes new ++ rest) = simp append_assoc in
       let n : length (f ++ (part_bytes key ++ (part_bytes old ++ part_bytes new))) ≡ 28 + length key + 8 + length old + 8 + length new =
       rw (length-append, length-append, length-append, length_part, length_part, length_part, length_fixed) (omega arith) in
-      let third : part_at (two 1 tx time key old (part_bytes new ++ rest)) (28 + length key + 8 + length old) ≡ At (behind (28 + length key + 8 + length old) new) =
+      let third : part_at (two 1 tx time key old (part_bytes new ++ rest)) (28 + length key + 8 + length old) ≡ Some (behind (28 + length key + 8 + length old) new) =
       rw (← append_assoc (part_bytes key) (part_bytes old) (part_bytes new ++ rest))
       (later_read f (part_bytes key ++ part_bytes old) new rest (28 + length key + 8 + length old) (length_two 1 tx time key old rest) r.short.2) in
       rw (n, e, decode_fixed 1 tx time (part_bytes key ++ (part_bytes old ++ (part_bytes new ++ rest))) (lit< tt) hx ht, pair_of_two 1 tx time key old (part_bytes new ++ rest) r.utf8 r.short.0 r.short.1, third)
@@ -213,21 +212,21 @@ placed_kind tx time commit = refl
 placed_kind tx time abort = refl
 
 -- ---- encode, then decode: what `encode` says that it wrote is the payload, nothing else of the target changed, and decoding the target gives the entry back
-module _ (content : Content) (tx time n : ℕ) (before after : List ℕ) (e : encoding (Written n) after ≡ encode_of (some content) tx time before) where
+module _ (content : Content) (tx time n : ℕ) (before after : List ℕ) (e : encoding (Ok n) after ≡ encode_of (some content) tx time before) where
   abbrev payload : List ℕ
   payload = payload_of tx time content
 
   told : (w f : Bool) → well_formed content ≡ w → leb (length payload) (length before) ≡ f
-      → encoding (Written n) after ≡ cond w (cond f (encoding (Written (length payload)) (sets before 0 payload)) (encoding NoRoom before)) (encoding NotWellFormed before)
+      → encoding (Ok n) after ≡ cond w (cond f (encoding (Ok (length payload)) (sets before 0 payload)) (encoding (Err NoRoom) before)) (encoding (Err NotWellFormed) before)
       → (well_formed content ≡ true) × (length payload ≤ length before) × (n ≡ length payload) × (after ≡ sets before 0 payload)
   told true true p q a =
-      let b : Written n ≡ Written (length payload) = ap (λ (x : Encoding). x.answer) a in
+      let b : Ok n ≡ Ok (length payload) = ap (λ (x : Encoding). x.answer) a in
       (p, leb-true (length payload) (length before) q, cc, ap (λ (x : Encoding). x.target) a)
   told true false p q a =
-      let b : Written n ≡ NoRoom = ap (λ (x : Encoding). x.answer) a in
+      let b : Ok n ≡ Err NoRoom = ap (λ (x : Encoding). x.answer) a in
       let z : ◌≡◌ {A = ℕ} 0 1 = cc in absurd (omega arith)
   told false f p q a =
-      let b : Written n ≡ NotWellFormed = ap (λ (x : Encoding). x.answer) a in
+      let b : Ok n ≡ Err NotWellFormed = ap (λ (x : Encoding). x.answer) a in
       let z : ◌≡◌ {A = ℕ} 0 1 = cc in absurd (omega arith)
 
   written : (well_formed content ≡ true) × (length payload ≤ length before) × (n ≡ length payload) × (after ≡ sets before 0 payload)
@@ -238,8 +237,8 @@ module _ (content : Content) (tx time n : ℕ) (before after : List ℕ) (e : en
   encode_writes =
       written.3 ∙ sets_front before payload written.1 ∙ ap (λ k. payload ++ drop k before) (sym written.2)
 
-  pub encode_decode : tx < 2 ^ 64 → time < 2 ^ 64 → (decode_of after ≡ Entry (placed tx time content) n) × (content_at after (placed tx time content) ≡ content)
+  pub encode_decode : tx < 2 ^ 64 → time < 2 ^ 64 → (decode_of after ≡ decoded (placed tx time content) n) × (content_at after (placed tx time content) ≡ content)
   encode_decode hx ht = (
-    ap decode_of encode_writes ∙ decode_payload tx time hx ht (drop n before) content (well_formed_readable content written.0) ∙ ap (Entry (placed tx time content)) (sym written.2),
+    ap decode_of encode_writes ∙ decode_payload tx time hx ht (drop n before) content (well_formed_readable content written.0) ∙ ap (decoded (placed tx time content)) (sym written.2),
     ap (λ s. content_at s (placed tx time content)) encode_writes ∙ content_payload tx time hx ht (drop n before) content,
   )

@@ -2,17 +2,18 @@
 -- Assumes nothing.
 use Rattle.std.specs.Prelude.{◌≡◌, refl, true, false, List, [], ◌∷◌, ◌++◌, ℕ, length, replicate}
 use Rattle.std.proofs.Math.Option.{some}
+use Rattle.std.specs.declared.option.Option.TheVariants.{None}
+use Rattle.std.specs.declared.result.Result.TheVariants.{Ok, Err}
 use Rattle.fields.specs.Le.{le_of, le_bytes}
 use Rattle.crc32.specs.Crc.{bit_step, bit_steps, byte_step, register, crc32_of}
 use Rattle.header.specs.Header.{header_of, header_bytes}
 use Rattle.payload.specs.Kind.{by_kind}
 use Rattle.payload.specs.Content.{insert, commit, fixed_bytes, part_bytes, payload_of, key_fits, value_fits, well_formed}
 use Rattle.payload.specs.Encode.{asked, encoding, put_of, encode_of}
-use Rattle.payload.specs.declared.Encoded.TheVariants.{Written, NotWellFormed, NoRoom}
+use Rattle.payload.specs.declared.EncodeError.TheVariants.{NotWellFormed, NoRoom}
 use Rattle.utf8.specs.Grammar.{is_utf8, completes, any, after, begun, utf8_char, utf8_1, utf8_2, utf8_3, utf8_4, tail}
-use Rattle.entry.specs.Decode.{part_at, decode_of, key_and_part, pair_at, key_at}
+use Rattle.entry.specs.Decode.{part_at, decoded, decode_of, key_and_part, pair_at, key_at}
 use Rattle.entry.specs.declared.WalEntry.TheVariants.{Commit}
-use Rattle.entry.specs.declared.decoding.Decoded.TheVariants.{Refused, Entry}
 
 -- "Commit, number 7, time 1: payload 03 00 00 00, 07 and seven 00, 01 and seven 00; 33 bytes with header."
 commit_seven : List ℕ
@@ -28,13 +29,13 @@ commit_seven_whole = refl
 
 -- in a target of 21 bytes and one of 19; and a kind over 4
 commit_seven_put :
-    (encode_of (some commit) 7 1 (replicate 21 9) ≡ encoding (Written 20) (commit_seven ++ 9 ∷ []))
-    × (encode_of (some commit) 7 1 (replicate 19 9) ≡ encoding NoRoom (replicate 19 9))
-    × (encode_of (asked 5 [] [] []) 7 1 (replicate 21 9) ≡ encoding NotWellFormed (replicate 21 9))
+    (encode_of (some commit) 7 1 (replicate 21 9) ≡ encoding (Ok 20) (commit_seven ++ 9 ∷ []))
+    × (encode_of (some commit) 7 1 (replicate 19 9) ≡ encoding (Err NoRoom) (replicate 19 9))
+    × (encode_of (asked 5 [] [] []) 7 1 (replicate 21 9) ≡ encoding (Err NotWellFormed) (replicate 21 9))
 unfolding commit_seven encode_of put_of asked by_kind well_formed payload_of fixed_bytes le_bytes
 commit_seven_put = (refl, refl, refl)
 
-commit_seven_back : decode_of commit_seven ≡ Entry (Commit 7 1) 20
+commit_seven_back : decode_of commit_seven ≡ decoded (Commit 7 1) 20
 unfolding commit_seven decode_of le_of by_kind
 commit_seven_back = refl
 
@@ -49,21 +50,21 @@ unfolding payload_of fixed_bytes part_bytes header_bytes header_of le_bytes
 insert_one_whole = refl
 
 -- another kind, and a payload of 19 bytes
-kind_five : decode_of (5 ∷ replicate 19 0) ≡ Refused
+kind_five : decode_of (5 ∷ replicate 19 0) ≡ None
 unfolding decode_of le_of by_kind
 kind_five = refl
 
-too_short : decode_of (3 ∷ replicate 18 0) ≡ Refused
+too_short : decode_of (3 ∷ replicate 18 0) ≡ None
 unfolding decode_of
 too_short = refl
 
 -- a key's length of 2^64 - 1
-endless_key : decode_of (replicate 20 0 ++ (replicate 8 255 ++ (97 ∷ []))) ≡ Refused
+endless_key : decode_of (replicate 20 0 ++ (replicate 8 255 ++ (97 ∷ []))) ≡ None
 unfolding decode_of le_of by_kind key_and_part pair_at key_at part_at
 endless_key = refl
 
 -- a key that is not UTF-8
-key_not_utf8 : decode_of (payload_of 1 5 (insert (255 ∷ []) (9 ∷ []))) ≡ Refused
+key_not_utf8 : decode_of (payload_of 1 5 (insert (255 ∷ []) (9 ∷ []))) ≡ None
 unfolding payload_of fixed_bytes part_bytes le_bytes decode_of le_of by_kind key_and_part pair_at key_at part_at is_utf8 completes any after begun utf8_char utf8_1 utf8_2 utf8_3 utf8_4 tail
 key_not_utf8 = refl
 

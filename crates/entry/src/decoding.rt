@@ -1,110 +1,80 @@
 // A payload is read as bincode 1.x writes `ByteWalEntry`.
-ghost use Rattle.std.specs.Prelude.{◌≡◌, ◌≤◌, length};
-ghost use Rattle.payload.specs.Content.{fixed_length};
-ghost use Rattle.entry.specs.declared.WalEntry.TheVariants.{Insert, Delete};
-ghost use Rattle.entry.specs.Decode.{part_at, key_at, pair_at, key_and_part, update_at, decode_of};
+ghost use Rattle.std.specs.Prelude.{◌≡◌};
+ghost use Rattle.payload.specs.Kind.{number_of};
+ghost use Rattle.entry.specs.Decode.{part_at, key_at, pair_at, MadeOf, update_at, body_at, decode_of};
 
 use super::{Place, WalEntry};
-use payload::kind::{ABORT, COMMIT, DELETE, INSERT, UPDATE};
+use payload::kind::Kind;
 use payload::{FIXED, LENGTH};
 
-// A refusal is unnumbered. `used` is how many bytes the entry took: bytes left over are allowed.
-#[derive(Clone, Copy)]
-pub enum Decoded {
-    Refused,
-    Entry { entry: WalEntry, used: usize },
+// `used` is how many bytes the entry took: bytes left over are allowed.
+#[derive(Clone, Copy, Debug, PartialEq, Eq)]
+pub struct Decoded {
+    pub entry: WalEntry,
+    pub used: usize,
 }
 
+// A key, and the part behind it.
 #[derive(Clone, Copy)]
-pub(crate) enum Part {
-    Fails,
-    At(Place),
-}
-
-#[derive(Clone, Copy)]
-pub(crate) enum Pair {
-    Lacks,
-    Has { key: Place, part: Place },
+pub(crate) struct Pair {
+    key: Place,
+    part: Place,
 }
 
 // "A key or value is an 8-byte length and its bytes." The length is compared with what is left: nothing is added first.
-fn part_at(payload: &[u8], at: usize) -> Part
-    requires { at ≤ length payload.now }
+#[tactic(auto, unfolding(crate::specs::Decode::part_at))]
+fn part_at(payload: &[u8], at: usize) -> Option<Place>
     ensures { result ≡ part_at payload.now at }
 {
-    let left = payload.len() - at;
+    let left = payload.len().saturating_sub(at);
     if left < LENGTH {
-        return Part::Fails;
+        return None;
     }
     let len = fields::get_u64(payload, at) as usize;
     if left - LENGTH < len {
-        return Part::Fails;
+        return None;
     }
-    Part::At(Place {
+    Some(Place {
         start: at + LENGTH,
         len,
     })
 }
 
-fn key_at(payload: &[u8], at: usize) -> Part
-    requires { at ≤ length payload.now }
+fn key_at(payload: &[u8], at: usize) -> Option<Place>
     ensures { result ≡ key_at payload.now at }
 {
-    let Part::At(key) = part_at(payload, at) else {
-        return Part::Fails;
-    };
-    let start = key.start;
+    let key = part_at(payload, at)?;
     let end = key.start + key.len;
-    if utf8::is_utf8(&payload[start..end]) {
-        Part::At(key)
-    } else {
-        Part::Fails
-    }
+    utf8::is_utf8(&payload[key.start..end]).then_some(key)
 }
 
-// A key, and one part behind it: an insert's and a delete's parts, and an update's first two.
-fn pair_at(payload: &[u8]) -> Pair
-    requires { fixed_length ≤ length payload.now }
+// An insert's and a delete's parts, and an update's first two.
+fn pair_at(payload: &[u8]) -> Option<Pair>
     ensures { result ≡ pair_at payload.now }
 {
-    let Part::At(key) = key_at(payload, FIXED) else {
-        return Pair::Lacks;
-    };
-    let Part::At(part) = part_at(payload, key.start + key.len) else {
-        return Pair::Lacks;
-    };
-    Pair::Has { key, part }
+    let key = key_at(payload, FIXED)?;
+    let part = part_at(payload, key.start + key.len)?;
+    Some(Pair { key, part })
 }
 
-fn insert(payload: &[u8], tx_id: u64, timestamp: u64) -> Decoded
-    requires { fixed_length ≤ length payload.now }
-    ensures { result ≡ key_and_part payload.now (Insert tx_id timestamp) }
+// The entry that is made of a key and one part.
+fn key_and_part<F: FnOnce(Place, Place) -> WalEntry>(payload: &[u8], entry: F) -> Option<Decoded>
+    requires { F.IsAlwaysCallable entry }
+    ensures { MadeOf payload.now (F.post entry) result }
 {
-    let Pair::Has { key, part } = pair_at(payload) else {
-        return Decoded::Refused;
-    };
-    Decoded::Entry {
-        entry: WalEntry::Insert {
-            tx_id,
-            timestamp,
-            key,
-            value: part,
-        },
+    let Pair { key, part } = pair_at(payload)?;
+    Some(Decoded {
+        entry: entry(key, part),
         used: part.start + part.len,
-    }
+    })
 }
 
-fn update(payload: &[u8], tx_id: u64, timestamp: u64) -> Decoded
-    requires { fixed_length ≤ length payload.now }
+fn update(payload: &[u8], tx_id: u64, timestamp: u64) -> Option<Decoded>
     ensures { result ≡ update_at payload.now tx_id timestamp }
 {
-    let Pair::Has { key, part } = pair_at(payload) else {
-        return Decoded::Refused;
-    };
-    let Part::At(new_value) = part_at(payload, part.start + part.len) else {
-        return Decoded::Refused;
-    };
-    Decoded::Entry {
+    let Pair { key, part } = pair_at(payload)?;
+    let new_value = part_at(payload, part.start + part.len)?;
+    Some(Decoded {
         entry: WalEntry::Update {
             tx_id,
             timestamp,
@@ -113,48 +83,53 @@ fn update(payload: &[u8], tx_id: u64, timestamp: u64) -> Decoded
             new_value,
         },
         used: new_value.start + new_value.len,
-    }
+    })
 }
 
-fn delete(payload: &[u8], tx_id: u64, timestamp: u64) -> Decoded
-    requires { fixed_length ≤ length payload.now }
-    ensures { result ≡ key_and_part payload.now (Delete tx_id timestamp) }
+// The entry of this kind whose parts stand behind the fixed part.
+fn body(payload: &[u8], kind: Kind, tx_id: u64, timestamp: u64) -> Option<Decoded>
+    ensures { result ≡ body_at payload.now (number_of kind) tx_id timestamp }
 {
-    let Pair::Has { key, part } = pair_at(payload) else {
-        return Decoded::Refused;
-    };
-    Decoded::Entry {
-        entry: WalEntry::Delete {
-            tx_id,
-            timestamp,
-            key,
-            old_value: part,
-        },
-        used: part.start + part.len,
+    match kind {
+        Kind::Insert => key_and_part(
+            payload,
+            |key, value| WalEntry::Insert {
+                tx_id,
+                timestamp,
+                key,
+                value,
+            },
+        ),
+        Kind::Update => update(payload, tx_id, timestamp),
+        Kind::Delete => key_and_part(
+            payload,
+            |key, old_value| WalEntry::Delete {
+                tx_id,
+                timestamp,
+                key,
+                old_value,
+            },
+        ),
+        Kind::Commit => Some(Decoded {
+            entry: WalEntry::Commit { tx_id, timestamp },
+            used: FIXED,
+        }),
+        Kind::Abort => Some(Decoded {
+            entry: WalEntry::Abort { tx_id, timestamp },
+            used: FIXED,
+        }),
     }
 }
 
-pub fn decode(payload: &[u8]) -> Decoded
+// A refusal is unnumbered.
+pub fn decode(payload: &[u8]) -> Option<Decoded>
     ensures { result ≡ decode_of payload.now }
 {
     if payload.len() < FIXED {
-        return Decoded::Refused;
+        return None;
     }
-    let kind = fields::get_le(payload, 0, 4);
+    let kind = Kind::try_from(fields::get_le(payload, 0, 4)).ok()?;
     let tx_id = fields::get_u64(payload, 4);
     let timestamp = fields::get_u64(payload, 12);
-    match kind {
-        INSERT => insert(payload, tx_id, timestamp),
-        UPDATE => update(payload, tx_id, timestamp),
-        DELETE => delete(payload, tx_id, timestamp),
-        COMMIT => Decoded::Entry {
-            entry: WalEntry::Commit { tx_id, timestamp },
-            used: FIXED,
-        },
-        ABORT => Decoded::Entry {
-            entry: WalEntry::Abort { tx_id, timestamp },
-            used: FIXED,
-        },
-        _ => Decoded::Refused,
-    }
+    body(payload, kind, tx_id, timestamp)
 }

@@ -4,22 +4,22 @@
 ghost use Rattle.std.specs.Prelude.{◌≡◌};
 ghost use Rattle.entry.specs.Parts.{tx_of, time_of, kind_of, is_commit, is_abort};
 
-use payload::kind::{ABORT, COMMIT, DELETE, INSERT, UPDATE};
+use payload::kind::Kind;
 
 mod decoding;
 
 pub use decoding::{Decoded, decode};
 pub use header::WalEntryHeader;
-pub use payload::{Encoded, encode, well_formed};
+pub use payload::{EncodeError, encode, well_formed};
 
 // A stretch of bytes: of a key or a value in its payload, of a payload in its segment.
-#[derive(Clone, Copy)]
+#[derive(Clone, Copy, Debug, PartialEq, Eq)]
 pub struct Place {
     pub start: usize,
     pub len: usize,
 }
 
-#[derive(Clone, Copy)]
+#[derive(Clone, Copy, Debug, PartialEq, Eq)]
 pub enum WalEntry {
     Insert {
         tx_id: u64,
@@ -55,11 +55,11 @@ impl WalEntry {
         ensures { result ≡ tx_of self }
     {
         match self {
-            WalEntry::Insert { tx_id, .. } => tx_id,
-            WalEntry::Update { tx_id, .. } => tx_id,
-            WalEntry::Delete { tx_id, .. } => tx_id,
-            WalEntry::Commit { tx_id, .. } => tx_id,
-            WalEntry::Abort { tx_id, .. } => tx_id,
+            WalEntry::Insert { tx_id, .. }
+            | WalEntry::Update { tx_id, .. }
+            | WalEntry::Delete { tx_id, .. }
+            | WalEntry::Commit { tx_id, .. }
+            | WalEntry::Abort { tx_id, .. } => tx_id,
         }
     }
 
@@ -67,11 +67,11 @@ impl WalEntry {
         ensures { result ≡ time_of self }
     {
         match self {
-            WalEntry::Insert { timestamp, .. } => timestamp,
-            WalEntry::Update { timestamp, .. } => timestamp,
-            WalEntry::Delete { timestamp, .. } => timestamp,
-            WalEntry::Commit { timestamp, .. } => timestamp,
-            WalEntry::Abort { timestamp, .. } => timestamp,
+            WalEntry::Insert { timestamp, .. }
+            | WalEntry::Update { timestamp, .. }
+            | WalEntry::Delete { timestamp, .. }
+            | WalEntry::Commit { timestamp, .. }
+            | WalEntry::Abort { timestamp, .. } => timestamp,
         }
     }
 
@@ -80,23 +80,23 @@ impl WalEntry {
         ensures { result ≡ kind_of self }
     {
         match self {
-            WalEntry::Insert { .. } => INSERT as u8,
-            WalEntry::Update { .. } => UPDATE as u8,
-            WalEntry::Delete { .. } => DELETE as u8,
-            WalEntry::Commit { .. } => COMMIT as u8,
-            WalEntry::Abort { .. } => ABORT as u8,
+            WalEntry::Insert { .. } => Kind::Insert as u8,
+            WalEntry::Update { .. } => Kind::Update as u8,
+            WalEntry::Delete { .. } => Kind::Delete as u8,
+            WalEntry::Commit { .. } => Kind::Commit as u8,
+            WalEntry::Abort { .. } => Kind::Abort as u8,
         }
     }
 
     pub fn is_commit(self) -> bool
         ensures { result ≡ is_commit self }
     {
-        self.kind() as u64 == COMMIT
+        matches!(self, WalEntry::Commit { .. })
     }
 
     pub fn is_abort(self) -> bool
         ensures { result ≡ is_abort self }
     {
-        self.kind() as u64 == ABORT
+        matches!(self, WalEntry::Abort { .. })
     }
 }

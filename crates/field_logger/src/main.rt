@@ -9,26 +9,19 @@
 mod buffers;
 mod logger;
 
-ghost use Rattle.std.specs.Prelude.{◌≤◌, length};
-
 use logger::Logger;
+use refusal::Refusal;
 use std::io;
-
-fn run(rt: &impl Print, input: &[u8], area: &mut [u8], directory: &mut [u8]) -> io::Result<()>
-    requires { length input.now ≤ 262_144 }
-{
-    let logger = logger::log_lines(rt, Logger::open(area, directory), input, area, directory)?;
-    console::print_line(rt, b"logged", &[logger.logged])?;
-    console::print_segments(rt, directory, logger.used)
-}
 
 fn main(rt: HostRuntime) -> io::Result<()> {
     let mut input = buffers::input();
     let n = console::read_full(&mut rt.stdin(), &mut input)?;
     if buffers::MOST_INPUT < n {
-        return console::print_line(&rt, b"refused", &[1]);
+        return console::print_refused(&rt, Refusal::InvalidBuffer);
     }
     let mut area = buffers::area();
     let mut directory = buffers::directory();
-    run(&rt, &input[..n], &mut area, &mut directory)
+    let mut logger = Logger::open(&mut area, &mut directory);
+    logger.log_lines(&rt, &input[..n])?;
+    logger.print(&rt)
 }

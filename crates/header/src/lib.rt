@@ -4,7 +4,7 @@
 ghost use Rattle.std.specs.Prelude.{◌≡◌};
 ghost use Rattle.header.specs.Header.{header_of, header_bytes, header_at, valid_for};
 
-#[derive(Clone, Copy)]
+#[derive(Clone, Copy, Debug, PartialEq, Eq)]
 pub struct WalEntryHeader {
     // Of the payload, without the header.
     pub length: u64,
@@ -18,6 +18,7 @@ impl WalEntryHeader {
 
     pub const SIZE: usize = 13;
 
+    #[tactic(auto, unfolding(crate::specs::Header::header_of))]
     pub fn new(data: &[u8]) -> Self
         ensures { result ≡ header_of «data».now }
     {
@@ -33,8 +34,8 @@ impl WalEntryHeader {
     {
         let mut bytes = [0u8; WalEntryHeader::SIZE];
         fields::put_u64(&mut bytes, 0, self.length);
-        fields::put_le(&mut bytes, 8, 4, self.checksum as u64);
-        fields::put_le(&mut bytes, 12, 1, self.version as u64);
+        fields::put_le(&mut bytes, 8, 4, u64::from(self.checksum));
+        fields::put_le(&mut bytes, 12, 1, u64::from(self.version));
         bytes
     }
 
@@ -55,6 +56,7 @@ impl WalEntryHeader {
         WalEntryHeader::read(bytes)
     }
 
+    #[tactic(auto, unfolding(crate::specs::Header::valid_for))]
     pub fn validate(self, data: &[u8]) -> bool
         ensures { result ≡ valid_for self «data».now }
     {

@@ -6,8 +6,8 @@ use lib.Seq.{length-sets, append_snoc}
 use Rattle.fields.proofs.Cases.{case_b, tests}
 use Rattle.records.specs.Dense.{dense, records_of, All}
 use Rattle.records.specs.Halving.{found_in}
-use Rattle.records.specs.declared.Found.{Found}
-use Rattle.records.specs.declared.Found.TheVariants.{At, Gap}
+use Rattle.std.specs.declared.result.Result.{Result}
+use Rattle.std.specs.declared.result.Result.TheVariants.{Ok, Err}
 use Rattle.records.proofs.Dense.{all_append, dense_none, dense_length, dense_added, records_back}
 use Rattle.lists.specs.Entries.{entry_record_at, entry_record_bytes, highest_in, EntryFits}
 use Rattle.lists.specs.Transactions.{transaction_at, transaction_bytes, note, note_all, transactions_of}
@@ -23,10 +23,10 @@ use Rattle.lists.proofs.Numbers.{note_length, transactions_ascend, transactions_
 
 -- ---- the lists keep their lengths
 
-length_as : (f : Found) (s : List ℕ) (n : ℕ) (e : EntryRecord) → length (note_by f s n e).transactions ≡ length s
+length_as : (f : Result ℕ ℕ) (s : List ℕ) (n : ℕ) (e : EntryRecord) → length (note_by f s n e).transactions ≡ length s
 unfolding begin_of
-length_as (At k) s n e = simp length-sets
-length_as (Gap k) s n e = case_b (leb (length s / 24) n) (λ p. rw p) (λ p. rw p (simp length-sets))
+length_as (Ok k) s n e = simp length-sets
+length_as (Err k) s n e = case_b (leb (length s / 24) n) (λ p. rw p) (λ p. rw p (simp length-sets))
 
 length_if : (f : Full) (s : List ℕ) (n : ℕ) (e : EntryRecord) → length (note_if f s n e).transactions ≡ length s
 unfolding note_of

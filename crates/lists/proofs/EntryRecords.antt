@@ -1,8 +1,8 @@
 -- The laws of the entry list's record: there and back, and its code.
 -- Assumes nothing.
-use Rattle.std.proofs.Common.{◌≡◌, ℕ, ◌+◌, ◌/◌, ◌<◌, ◌≤◌, List, ◌++◌, length, drop, replicate, ◌∙◌, append_assoc, add-zero, arith, length-append, drop_of_length-le, drop-drop}
+use Rattle.std.proofs.Common.{◌≡◌, ℕ, ◌+◌, ◌/◌, ◌<◌, List, ◌++◌, length, replicate, ◌∙◌, append_assoc, arith, length-append}
 use lib.Seq.{sets}
-use Rattle.fields.specs.Le.{le_of, le_bytes, num_at}
+use Rattle.fields.specs.Le.{le_bytes, num_at}
 use Rattle.fields.proofs.Numbers.{length_bytes, num_front, num_skip}
 use Rattle.fields.proofs.Stores.{sets_join}
 use Rattle.lists.specs.Entries.{EntryFits, entry_record_at, entry_record_bytes}
@@ -43,16 +43,6 @@ entry_back e rest h =
     rw (a, num_front 8 e.tx_id (p ++ (l ++ (k ++ z))) h.tx_id, second, third, fourth)
 
 -- ---- the code of one record
-
--- the record at an offset, by its fields
-pub entry_is : (s : List ℕ) (at : ℕ) → ◌≡◌ {A = EntryRecord} (record { tx_id = num_at at 8 s; place = num_at (at + 8) 8 s; len = num_at (at + 16) 8 s; kind = num_at (at + 24) 1 s }) (entry_record_at (drop at s))
-unfolding entry_record_at
-entry_is s at = simp (drop-drop, add-zero)
-
--- past the end
-pub entry_past : (s : List ℕ) (at : ℕ) → length s ≤ at → ◌≡◌ {A = EntryRecord} (record { tx_id = 0; place = 0; len = 0; kind = 0 }) (entry_record_at (drop at s))
-unfolding entry_record_at le_of
-entry_past s at h = rw (drop_of_length-le s h)
 
 -- four numbers one after the other are a record
 pub put_four : (e : EntryRecord) (s : List ℕ) (at : ℕ) → e.kind < 256 → sets (sets (sets (sets s at (le_bytes 8 e.tx_id)) (at + 8) (le_bytes 8 e.place)) (at + 16) (le_bytes 8 e.len)) (at + 24) (le_bytes 8 e.kind) ≡ sets s at (entry_record_bytes e)

@@ -5,8 +5,8 @@ use borrow.Author.Tests.{lt-leb}
 use Rattle.fields.proofs.Cases.{case_b, tests}
 use Rattle.records.specs.Dense.{dense, All}
 use Rattle.records.specs.Sorted.{compare_numbers, place_of, Ascends}
-use Rattle.records.specs.declared.Found.{Found}
-use Rattle.records.specs.declared.Found.TheVariants.{At, Gap}
+use Rattle.std.specs.declared.result.Result.{Result}
+use Rattle.std.specs.declared.result.Result.TheVariants.{Ok, Err}
 use Rattle.records.proofs.Dense.{all_at, dense_length, dense_changed, dense_inserted, record_back}
 use Rattle.records.proofs.Sorted.{numbers_order, place_at, place_gap}
 use Rattle.records.proofs.Halving.{halve_dense}
@@ -41,12 +41,12 @@ module _ (T : ℕ) where
   abbrev pub note_to : (old new : List TransactionRecord) → Ledger
   note_to old new = cond (leb (length new) (T / 24)) (roomy new) (full old)
 
-  note_standing : (ts before : List TransactionRecord) (t : TransactionRecord) (after : List TransactionRecord) (e : EntryRecord) → ts ≡ before ++ (t ∷ after) → TransactionFits t → length ts ≤ T / 24 → note_by (At (length before)) (table ts) (length ts) e ≡ note_to ts (before ++ (noted e t ∷ after))
+  note_standing : (ts before : List TransactionRecord) (t : TransactionRecord) (after : List TransactionRecord) (e : EntryRecord) → ts ≡ before ++ (t ∷ after) → TransactionFits t → length ts ≤ T / 24 → note_by (Ok (length before)) (table ts) (length ts) e ≡ note_to ts (before ++ (noted e t ∷ after))
   note_standing ts before t after e w f h =
       let n : length (before ++ (noted e t ∷ after)) ≡ length ts = rw w (simp length-append) in
       rw (n, le-leb (length ts) (T / 24) h, w, noted_dense before t after e f)
 
-  note_missing : (ts before after : List TransactionRecord) (e : EntryRecord) → ts ≡ before ++ after → length ts ≤ T / 24 → note_by (Gap (length before)) (table ts) (length ts) e ≡ note_to ts (before ++ (begun e ∷ after))
+  note_missing : (ts before after : List TransactionRecord) (e : EntryRecord) → ts ≡ before ++ after → length ts ≤ T / 24 → note_by (Err (length before)) (table ts) (length ts) e ≡ note_to ts (before ++ (begun e ∷ after))
   unfolding begin_of
   note_missing ts before after e w h =
       let n : length (before ++ (begun e ∷ after)) ≡ length ts + 1 = rw w (simp length-append (omega arith)) in
@@ -63,11 +63,11 @@ module _ (T : ℕ) where
       rw (halve_dense compare_numbers numbers_order tx_number e.tx_id transaction_bytes 24 length-transaction transaction_at TransactionFits transaction_back T ts a fs)
       (told (place_of compare_numbers tx_number e.tx_id ts) refl)
     where
-      told : (f : Found) → place_of compare_numbers tx_number e.tx_id ts ≡ f → note_by f (table ts) (length ts) e ≡ note_to ts (note e ts)
-      told (At k) q =
+      told : (f : Result ℕ ℕ) → place_of compare_numbers tx_number e.tx_id ts ≡ f → note_by f (table ts) (length ts) e ≡ note_to ts (note e ts)
+      told (Ok k) q =
           let s = place_at compare_numbers tx_number e.tx_id ts k q in
           let f = all_at TransactionFits s.before s.found s.after (rw s.whole at fs) in
           rw (← s.place, s.changed (noted e) (begun e)) (note_standing ts s.before s.found s.after e s.whole f h)
-      told (Gap k) q =
+      told (Err k) q =
           let m = place_gap compare_numbers tx_number e.tx_id ts k q in
           rw (← m.place, m.inserted (noted e) (begun e)) (note_missing ts m.before m.after e m.whole h)

@@ -1,9 +1,9 @@
 -- The laws of the transactions' record: there and back, and its code.
 -- Assumes nothing.
-use Rattle.std.proofs.Common.{◌≡◌, ℕ, zero, suc, ◌+◌, ◌*◌, ◌/◌, ◌%◌, ◌^◌, ◌<◌, ◌≤◌, List, ◌++◌, length, drop, replicate, sym, refl, ap, ◌∙◌, append_assoc, add-zero, arith, length-append, drop_of_length-le, drop-drop}
+use Rattle.std.proofs.Common.{◌≡◌, ℕ, zero, suc, ◌+◌, ◌*◌, ◌/◌, ◌%◌, ◌^◌, ◌<◌, List, ◌++◌, length, replicate, sym, refl, ap, ◌∙◌, append_assoc, arith, length-append}
 use native.Mathlib.Nat.{pow-succ', div-add-mod}
 use lib.Seq.{sets}
-use Rattle.fields.specs.Le.{le_of, le_bytes, num_at}
+use Rattle.fields.specs.Le.{le_bytes, num_at}
 use Rattle.fields.proofs.Numbers.{length_bytes, num_front, num_skip}
 use Rattle.fields.proofs.Stores.{sets_join}
 use Rattle.lists.specs.Transactions.{action_number, action_of, transaction_at, transaction_bytes}
@@ -71,16 +71,6 @@ bytes_wrap w v = sym (bytes_more w (v % 256 ^ w) (v / 256 ^ w)) ∙ ap (le_bytes
 pub some_more : (number : ℕ) (action : RecoveryAction) (count more n : ℕ) → n ≡ (count + more) % 2 ^ 64 → transaction_bytes (record { tx_id = number; action = action; count = n }) ≡ transaction_bytes (record { tx_id = number; action = action; count = count + more })
 unfolding transaction_bytes
 some_more number action count more n e = rw (e, bytes_wrap 8 (count + more))
-
--- the record at an offset, by its fields
-pub transaction_read : (s : List ℕ) (at : ℕ) → ◌≡◌ {A = TransactionRecord} (record { tx_id = num_at at 8 s; action = action_of (num_at (at + 8) 1 s); count = num_at (at + 16) 8 s }) (transaction_at (drop at s))
-unfolding transaction_at
-transaction_read s at = simp (drop-drop, add-zero)
-
--- past the end
-pub transaction_past : (s : List ℕ) (at : ℕ) → length s ≤ at → ◌≡◌ {A = TransactionRecord} (record { tx_id = 0; action = Incomplete; count = 0 }) (transaction_at (drop at s))
-unfolding transaction_at le_of
-transaction_past s at h = rw (drop_of_length-le s h)
 
 -- three numbers one after the other are a record
 pub put_three : (t : TransactionRecord) (s : List ℕ) (at : ℕ) → sets (sets (sets s at (le_bytes 8 t.tx_id)) (at + 8) (le_bytes 8 (action_number t.action))) (at + 16) (le_bytes 8 t.count) ≡ sets s at (transaction_bytes t)

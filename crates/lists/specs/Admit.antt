@@ -7,9 +7,9 @@ use Rattle.std.proofs.lemmas.List.Edits.{sets}
 use Rattle.records.specs.Dense.{dense}
 use Rattle.records.specs.Sorted.{compare_numbers}
 use Rattle.records.specs.Halving.{found_in}
-use Rattle.fields.specs.declared.bytes.Ordering.{Ordering}
-use Rattle.records.specs.declared.Found.{Found}
-use Rattle.records.specs.declared.Found.TheVariants.{At, Gap}
+use Rattle.std.specs.declared.cmp.Ordering.{Ordering}
+use Rattle.std.specs.declared.result.Result.{Result}
+use Rattle.std.specs.declared.result.Result.TheVariants.{Ok, Err}
 use Rattle.lists.specs.Entries.{entry_record_bytes, highest_in}
 use Rattle.lists.specs.Transactions.{transaction_at, transaction_bytes, noted, begun, transactions_of}
 use Rattle.lists.specs.declared.entries.EntryRecord.{EntryRecord}
@@ -49,9 +49,9 @@ begin_of transactions n k e =
     (record { transactions = begun_at transactions n k e; count = n + 1; full = Room })
 
 -- by what was found of the number
-abbrev pub note_by : Found → List ℕ → (n : ℕ) → EntryRecord → Ledger
-note_by (At k) transactions n e = record { transactions = noted_at transactions k e; count = n; full = Room }
-note_by (Gap k) transactions n e = begin_of transactions n k e
+abbrev pub note_by : Result ℕ ℕ → List ℕ → (n : ℕ) → EntryRecord → Ledger
+note_by (Ok k) transactions n e = record { transactions = noted_at transactions k e; count = n; full = Room }
+note_by (Err k) transactions n e = begin_of transactions n k e
 
 -- an entry noted among the first n transactions
 unfoldable pub note_of : List ℕ → (n : ℕ) → EntryRecord → Ledger

@@ -6,10 +6,10 @@ ghost use Rattle.lists.specs.Admit.{ledger, noted_at, begin_of, note_of, note_if
 
 use crate::entries::EntryRecord;
 use crate::transactions::{RecoveryAction, TransactionRecord};
-use payload::kind::{ABORT, COMMIT};
-use records::Found;
+use payload::kind::Kind;
+use records::record::Record;
 
-#[derive(Clone, Copy)]
+#[derive(Clone, Copy, PartialEq, Eq)]
 pub enum Full {
     Room,
     // More distinct numbers than transaction records: entries are still counted, since 6 goes before 7.
@@ -38,9 +38,9 @@ struct Extent {
 fn marker(kind: u8) -> RecoveryAction
     ensures { result ≡ marker_of kind }
 {
-    match kind as u64 {
-        COMMIT => RecoveryAction::Commit,
-        ABORT => RecoveryAction::Rollback,
+    match Kind::try_from(u64::from(kind)) {
+        Ok(Kind::Commit) => RecoveryAction::Commit,
+        Ok(Kind::Abort) => RecoveryAction::Rollback,
         _ => RecoveryAction::Incomplete,
     }
 }
@@ -49,10 +49,10 @@ fn marker(kind: u8) -> RecoveryAction
 fn decided(marker: RecoveryAction, before: RecoveryAction) -> RecoveryAction
     ensures { result ≡ or_else marker before }
 {
-    match marker {
-        RecoveryAction::Incomplete => before,
-        RecoveryAction::Commit => RecoveryAction::Commit,
-        RecoveryAction::Rollback => RecoveryAction::Rollback,
+    if marker == RecoveryAction::Incomplete {
+        before
+    } else {
+        marker
     }
 }
 
@@ -60,10 +60,10 @@ fn decided(marker: RecoveryAction, before: RecoveryAction) -> RecoveryAction
 fn to_count(marker: RecoveryAction) -> u64
     ensures { result ≡ unmarked marker }
 {
-    match marker {
-        RecoveryAction::Incomplete => 1,
-        RecoveryAction::Commit => 0,
-        RecoveryAction::Rollback => 0,
+    if marker == RecoveryAction::Incomplete {
+        1
+    } else {
+        0
     }
 }
 
@@ -74,9 +74,9 @@ fn noted(entry: EntryRecord, transaction: TransactionRecord) -> TransactionRecor
     let before = transaction.action;
     let marker = marker(entry.kind);
     TransactionRecord {
-        tx_id: transaction.tx_id,
         action: decided(marker, before),
-        count: std::num::wrapping_add_u64(transaction.count, to_count(marker)),
+        count: transaction.count.wrapping_add(to_count(marker)),
+        ..transaction
     }
 }
 
@@ -132,14 +132,14 @@ fn note(transactions: &mut [u8], n: usize, entry: EntryRecord) -> Extent
     ensures { ledger transactions.new result ≡ note_of transactions.old n entry }
 {
     match crate::transactions::find(transactions, n, entry.tx_id) {
-        Found::At(k) => {
+        Ok(k) => {
             note_at(transactions, k, entry);
             Extent {
                 count: n,
                 full: Full::Room,
             }
         }
-        Found::Gap(k) => begin_at(transactions, n, k, entry),
+        Err(k) => begin_at(transactions, n, k, entry),
     }
 }
 
@@ -147,10 +147,10 @@ fn note(transactions: &mut [u8], n: usize, entry: EntryRecord) -> Extent
 fn note_if(full: Full, transactions: &mut [u8], n: usize, entry: EntryRecord) -> Extent
     ensures { ledger transactions.new result ≡ note_if full transactions.old n entry }
 {
-    match full {
-        Full::Room => note(transactions, n, entry),
-        Full::Transactions => Extent { count: n, full },
-        Full::Entries => Extent { count: n, full },
+    if full == Full::Room {
+        note(transactions, n, entry)
+    } else {
+        Extent { count: n, full }
     }
 }
 
@@ -160,20 +160,16 @@ pub fn admit(entries: &mut [u8], transactions: &mut [u8], lists: Lists, entry: E
 {
     if entries.len() / EntryRecord::SIZE <= lists.entries {
         return Lists {
-            entries: lists.entries,
-            transactions: lists.transactions,
-            highest: lists.highest,
             full: Full::Entries,
+            ..lists
         };
     }
     crate::entries::put_entry(entries, lists.entries, entry);
-    let full = lists.full;
-    let extent = note_if(full, transactions, lists.transactions, entry);
-    let full = extent.full;
+    let extent = note_if(lists.full, transactions, lists.transactions, entry);
     Lists {
         entries: lists.entries + 1,
         transactions: extent.count,
         highest: fields::higher(lists.highest, entry.tx_id),
-        full,
+        full: extent.full,
     }
 }

@@ -40,12 +40,8 @@ impl Tally {
             aborted: 0,
             incomplete: 0,
         };
-        let mut k = n;
-        while 0 < k {
-            k -= 1;
-            let transaction = crate::transactions::transaction_at(transactions, k);
-            let action = transaction.action;
-            counts = counts.with(action);
+        for k in (0..n).rev() {
+            counts = counts.with(crate::transactions::transaction_at(transactions, k).action);
         }
         counts
     }
@@ -55,11 +51,10 @@ impl Tally {
 fn if_committed(transaction: TransactionRecord) -> u64
     ensures { result ≡ if_committed transaction.action transaction.tx_id 0 }
 {
-    let action = transaction.action;
-    match action {
-        RecoveryAction::Commit => transaction.tx_id,
-        RecoveryAction::Rollback => 0,
-        RecoveryAction::Incomplete => 0,
+    if transaction.action == RecoveryAction::Commit {
+        transaction.tx_id
+    } else {
+        0
     }
 }
 
@@ -68,9 +63,7 @@ pub fn highest_committed(transactions: &[u8], n: usize) -> u64
     ensures { result ≡ highest_committed (records_of 24 transaction_at n transactions.now) }
 {
     let mut highest = 0;
-    let mut k = n;
-    while 0 < k {
-        k -= 1;
+    for k in (0..n).rev() {
         highest = fields::higher(
             if_committed(crate::transactions::transaction_at(transactions, k)),
             highest,

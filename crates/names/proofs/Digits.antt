@@ -1,6 +1,6 @@
 -- Laws of decimal digits: each by the last digit, from the number without it.
 -- Assumes nothing.
-use mathlib.Core.Path.{◌≡◌, refl, ◌∙◌}
+use mathlib.Core.Path.{◌≡◌, refl, ap, ◌∙◌}
 use mathlib.Core.Bool.{true, ◌&&◌, and_assoc}
 use mathlib.Core.List.{List, [], ◌∷◌, ◌++◌, append_assoc}
 use Prim.Native.Nat.{ℕ, zero, suc, ◌+◌, ◌-◌, ◌*◌, ◌/◌, ◌%◌, ◌^◌, ◌<◌, ◌≤◌, max}
@@ -58,6 +58,24 @@ digits_most zero n h = omega (arith, length_last n (omega (arith, pow-succ' 10 z
 digits_most (suc w) n h =
     case_b (ltb n 10) (λ q. omega (arith, length_last n (omega (arith, tests))))
     (λ q. omega (arith, length_more n (omega (arith, tests)), digits_most w (n / 10) (omega (arith, pow-succ' 10 (suc w)))))
+
+one_pow : (w : ℕ) → 1 ≤ 10 ^ w
+one_pow zero = omega arith
+one_pow (suc w) = omega (arith, pow-succ' 10 w, one_pow w)
+
+digits_least : (w n : ℕ) → 10 ^ w ≤ n → suc w ≤ length (digits_of n)
+digits_least zero n h = digits_some n
+digits_least (suc w) n h =
+    let k : 10 * 10 ^ w ≤ n = omega (arith, pow-succ' 10 w) in
+    let l : 1 ≤ 10 ^ w = one_pow w in
+    omega (arith, length_more n (omega arith), digits_least w (n / 10) (omega arith))
+
+-- one digit more than the number's logarithm; `0` has one too
+pub digits_count : (k n m : ℕ) → m ≡ max n 1 → 10 ^ k ≤ m → m < 10 * 10 ^ k → length (digits_of n) ≡ k + 1
+digits_count zero n m e h l = omega (arith, length_last n (omega arith))
+digits_count (suc k) n m e h l =
+    let f : m ≡ n = omega (arith, pow-succ' 10 k, one_pow k) in
+    omega (arith, digits_least (suc k) m h, digits_most (suc k) m (omega (arith, pow-succ' 10 (suc k))), ap (λ x. length (digits_of x)) f)
 
 -- ---- padding
 

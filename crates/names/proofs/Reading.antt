@@ -1,73 +1,85 @@
 -- Laws of reading a name, and the round trips: a name that was written reads as its own id, and no other name is kept.
 -- Assumes nothing.
-use mathlib.Core.Path.{◌≡◌, refl, ap, ◌∙◌}
-use mathlib.Core.Bool.{true, false, and-false}
+use mathlib.Core.Path.{◌≡◌, refl, sym, ap, ◌∙◌}
+use mathlib.Core.Bool.{true, false, and-false, and-true, false≢true}
 use mathlib.Core.List.{List, [], ◌∷◌, ◌++◌}
-use Prim.Native.Nat.{ℕ, suc, ◌+◌, ◌-◌, ◌^◌, ◌<◌, ◌≤◌}
+use Prim.Native.Nat.{ℕ, ◌+◌, ◌-◌, ◌^◌, ◌<◌, ◌≤◌}
 use native.Mathlib.Omega.{arith}
-use borrow.Author.Tests.{lt-ltb, le-leb, lt-leb, eq-eqb, ne_eqb}
+use borrow.Author.Tests.{lt-ltb, le-leb}
 use lib.Dec.{leb, eqb}
-use lib.ListN.{length, get_or, take, drop, length-append}
-use lib.Seq.{take_all, take-append-le, take-append_seam, drop-append-le, drop-append_seam}
-use Rattle.fields.specs.Order.{same_bytes}
+use lib.ListN.{length, take, drop, length-append}
+use lib.Seq.{take-append-le, take-append_seam, drop-append-le, drop-append_seam, drop-drop}
 use Rattle.fields.proofs.Cases.{case_b, tests}
-use Rattle.fields.proofs.Ordered.{same_true, same_self}
-use Rattle.names.specs.declared.decimal.Number.{Number}
-use Rattle.names.specs.declared.decimal.Number.TheVariants.{NoNumber, Value}
-use Rattle.names.specs.declared.Parsed.TheVariants.{NoName, Id}
+use Rattle.fields.proofs.Ordered.{same_is, same_true, same_self}
+use denote.Ref.{Bor}
+use Rattle.std.specs.Prelude.{nat_eq}
+use Rattle.std.specs.Cmp.Lexicographic.{pointwise}
+use Rattle.std.specs.Option.{MatchOption, option_copied, unwrap_or}
+use Rattle.std.proofs.lemmas.Option.{cond_some, none-some, same_Some}
+use Rattle.std.specs.declared.option.Option.{Option}
+use Rattle.std.specs.declared.option.Option.TheVariants.{None, Some}
+use Rattle.names.specs.declared.Parsed.{Parsed}
 use Rattle.names.specs.Decimal.{digits_of, padded, all_digits, value_of, number_after, number_in}
-use Rattle.names.specs.Name.{prefix, suffix, name_of, is_framed, between, without_plus, parsed_as, read_of}
+use Rattle.names.specs.Name.{prefix, suffix, name_of, is_framed, between, text_of, without_plus, parsed_as, read_of}
 use Rattle.names.proofs.Digits.{length-padded, value_padded, all_padded}
 use Rattle.names.proofs.Numerals.{number_start}
 
 -- ---- an optional `+`
 
-pub plus_empty : (text : List ℕ) → length text ≡ 0 → text ≡ without_plus text
+pub plus_says : (text : Bor (List ℕ)) (r : Option (Bor (List ℕ))) → MatchOption r (pointwise nat_eq (take 1 text.now) (43 ∷ []) ≡ false) (λ x. (pointwise nat_eq (take 1 text.now) (43 ∷ []) ≡ true) × (x.now ≡ drop 1 text.now) × (length x.now + 1 ≡ length text.now)) → (unwrap_or r text).now ≡ without_plus text.now
 unfolding without_plus
-plus_empty [] h = refl
-plus_empty (b ∷ bs) h = absurd (omega arith)
+plus_says text r = told r
+  where
+    absent : (s : List ℕ) → pointwise nat_eq (take 1 s) (43 ∷ []) ≡ false → s ≡ without_plus s
+    absent [] e = refl
+    absent (b ∷ bs) e = let f : eqb b 43 ≡ false = sym (and-true (eqb b 43)) ∙ e in rw f
 
-pub plus_dropped : (text : List ℕ) → 0 < length text → get_or text 0 0 ≡ 43 → take (length text - 1) (drop 1 text) ≡ without_plus text
-unfolding without_plus
-plus_dropped [] h e = absurd (omega arith)
-plus_dropped (b ∷ bs) h e =
-    let l : length bs ≤ suc (length bs) - 1 = omega arith in
-    rw (eq-eqb b 43 e, take_all (suc (length bs) - 1) bs l)
+    dropped : (s x : List ℕ) → pointwise nat_eq (take 1 s) (43 ∷ []) ≡ true → x ≡ drop 1 s → x ≡ without_plus s
+    dropped [] x e f = absurd (false≢true e)
+    dropped (b ∷ bs) x e f = let g : eqb b 43 ≡ true = sym (and-true (eqb b 43)) ∙ e in rw g f
 
-pub plus_absent : (text : List ℕ) → 0 < length text → (get_or text 0 0 ≡ 43 → ⊥) → text ≡ without_plus text
-unfolding without_plus
-plus_absent [] h e = absurd (omega arith)
-plus_absent (b ∷ bs) h e = rw (ne_eqb b 43 e)
+    told : (r : Option (Bor (List ℕ))) → MatchOption r (pointwise nat_eq (take 1 text.now) (43 ∷ []) ≡ false) (λ x. (pointwise nat_eq (take 1 text.now) (43 ∷ []) ≡ true) × (x.now ≡ drop 1 text.now) × (length x.now + 1 ≡ length text.now)) → (unwrap_or r text).now ≡ without_plus text.now
+    told None e = absent text.now e
+    told (Some x) e = dropped text.now x.now e.0 e.1
 
 -- ---- prefix and suffix
 
 module _ (name : List ℕ) where
-  pub framed_short : length name < 8 → false ≡ is_framed name
-  unfolding is_framed prefix suffix
-  framed_short h = rw (lt-leb 8 (length name) h)
+  unframed : is_framed name ≡ false → None ≡ text_of name
+  unfolding text_of
+  unframed e = rw e
 
-  pub framed_first : same_bytes (take 4 name) prefix ≡ false → false ≡ is_framed name
+  pub no_prefix : pointwise nat_eq (take 4 name) prefix ≡ false → None ≡ text_of name
   unfolding is_framed prefix
-  framed_first e = rw (e, and-false)
+  no_prefix e = unframed (rw (← same_is, e, and-false))
 
-  pub framed_last : 8 ≤ length name → same_bytes (take 4 name) prefix ≡ true → same_bytes (drop (length name - 4) name) suffix ≡ is_framed name
-  unfolding is_framed prefix suffix
-  framed_last h e = rw (le-leb 8 (length name) h, e)
+  -- what stands behind the prefix, and what std says of its suffix
+  module _ (rest : List ℕ) (first : pointwise nat_eq (take 4 name) prefix ≡ true) (is : rest ≡ drop 4 name) (long : length rest + 4 ≡ length name) where
+    last : 4 ≤ length rest → drop (length rest - 4) rest ≡ drop (length name - 4) name
+    last h =
+        let e : 4 + (length rest - 4) ≡ length name - 4 = omega arith in
+        ap (λ l. drop (length rest - 4) l) is ∙ rw (drop-drop, e)
 
-  pub framed_long : is_framed name ≡ true → 8 ≤ length name
-  unfolding is_framed prefix suffix
-  framed_long e = case_b (leb 8 (length name)) (λ q. omega (arith, tests))
-      (λ q. let f : false ≡ true = rw q at e in let z : ◌≡◌ {A = ℕ} 0 1 = cc in absurd (omega arith))
+    pub suffix_says : (r : Option (Bor (List ℕ))) → MatchOption r (pointwise nat_eq (drop (length rest - 4) rest) suffix ≡ false) (λ x. (pointwise nat_eq (drop (length rest - 4) rest) suffix ≡ true) × (x.now ≡ take (length rest - 4) rest) × (length x.now + 4 ≡ length rest)) → option_copied r ≡ text_of name
+    unfolding text_of is_framed prefix suffix between
+    suffix_says None e =
+        case_b (leb 8 (length name))
+        (λ q. let h : 4 ≤ length rest = omega (arith, tests) in unframed (rw (q, ← same_is, ← same_is, first, ← last h, e)))
+        (λ q. unframed (rw q))
+    suffix_says (Some x) e =
+        let h : 4 ≤ length rest = omega (arith, e.2) in
+        let k : length rest - 4 ≡ length name - 8 = omega arith in
+        rw (le-leb 8 (length name) (omega arith), ← same_is, ← same_is, first, ← last h, e.0, e.1, k, is)
 
   -- ---- from the parts to the whole
 
-  pub read_none : is_framed name ≡ false → NoName ≡ read_of name
-  unfolding read_of
-  read_none e = rw e
+  pub read_none : None ≡ text_of name → None ≡ read_of name
+  unfolding text_of read_of
+  read_none e = case_b (is_framed name) (λ q. absurd (none-some _ (rw q at e))) (λ q. rw q)
 
-  pub read_some : (m : Number) → is_framed name ≡ true → m ≡ number_in (without_plus (between name)) → parsed_as name m ≡ read_of name
-  unfolding read_of
-  read_some m e f = rw (e, f)
+  pub read_some : (text : List ℕ) (m : Option ℕ) → Some text ≡ text_of name → m ≡ number_in (without_plus text) → parsed_as name m ≡ read_of name
+  unfolding text_of read_of
+  read_some text m e f = let t = cond_some _ _ _ (sym e) in rw (t.0, t.1, f)
 
 -- ---- what stands between prefix and suffix
 
@@ -104,13 +116,13 @@ plus_digits (b ∷ bs) h =
     (λ q. let e : b ≡ 43 = omega (arith, tests) in let f : false ≡ true = rw e at h in let z : ◌≡◌ {A = ℕ} 0 1 = cc in absurd (omega arith))
     (λ q. rw q)
 
-number_digits : (ds : List ℕ) → 0 < length ds → all_digits ds ≡ true → value_of ds < 2 ^ 64 → number_in ds ≡ Value (value_of ds)
+number_digits : (ds : List ℕ) → 0 < length ds → all_digits ds ≡ true → value_of ds < 2 ^ 64 → number_in ds ≡ Some (value_of ds)
 unfolding number_after
 number_digits ds l h k = rw (← number_start ds l, h, lt-ltb (value_of ds) (2 ^ 64) k)
 
 -- ---- the round trips
 
-pub read_written : (id : ℕ) → id < 2 ^ 64 → read_of (name_of id) ≡ Id id true
+pub read_written : (id : ℕ) → id < 2 ^ 64 → read_of (name_of id) ≡ Some (record { id = id; kept = true })
 unfolding read_of parsed_as name_of
 read_written id h =
     let ds = padded 8 (digits_of id) in
@@ -118,16 +130,15 @@ read_written id h =
     let k : value_of ds < 2 ^ 64 = omega (arith, value_padded 8 id) in
     rw (framed_around ds, between_around ds, plus_digits ds (all_padded 8 id), number_digits ds l (all_padded 8 id) k, value_padded 8 id, same_self (name_of id))
 
-pub kept_exactly : (name : List ℕ) (id : ℕ) → read_of name ≡ Id id true → name ≡ name_of id
+pub kept_exactly : (name : List ℕ) (id : ℕ) → read_of name ≡ Some (record { id = id; kept = true }) → name ≡ name_of id
 unfolding read_of parsed_as
 kept_exactly name id e =
-    case_b (is_framed name)
-    (λ q. told (number_in (without_plus (between name))) (rw q at e))
-    (λ q. let f : NoName ≡ Id id true = rw q at e in let z : ◌≡◌ {A = ℕ} 0 1 = cc in absurd (omega arith))
+    case_b (is_framed name) (λ q. told (number_in (without_plus (between name))) (rw q at e))
+    (λ q. absurd (none-some _ (rw q at e)))
   where
-    told : (m : Number) → parsed_as name m ≡ Id id true → name ≡ name_of id
-    told NoNumber e = let z : ◌≡◌ {A = ℕ} 0 1 = cc in absurd (omega arith)
-    told (Value v) e =
-        let a : v ≡ id = cc in
-        let b : same_bytes name (name_of v) ≡ true = cc in
-        same_true name (name_of v) b ∙ ap name_of a
+    told : (m : Option ℕ) → parsed_as name m ≡ Some (record { id = id; kept = true }) → name ≡ name_of id
+    told None e = absurd (none-some _ e)
+    told (Some v) e =
+        let p = same_Some _ _ e in
+        let a : v ≡ id = ap (λ (x : Parsed). x.id) p in
+        same_true name (name_of v) (ap (λ (x : Parsed). x.kept) p) ∙ ap name_of a

@@ -9,13 +9,13 @@ use lib.ListN.{length, take, drop, length-append}
 use lib.Seq.{sets, length-sets, sets-eq, take_at}
 use Rattle.fields.proofs.Stores.{sets_join}
 use Rattle.refusal.specs.Number.{number_of}
-use Rattle.refusal.specs.Answer.{refused, accepted}
+use Rattle.refusal.specs.Answer.{refused, accepted, answer_of}
 use Rattle.refusal.specs.declared.Refusal.{Refusal}
 use Rattle.refusal.specs.declared.Refusal.TheVariants.{InvalidBuffer}
-use Rattle.names.specs.declared.Named.{Named}
-use Rattle.names.specs.declared.Named.TheVariants.{Refused, Written}
+use Rattle.std.specs.declared.result.Result.{Result}
+use Rattle.std.specs.declared.result.Result.TheVariants.{Ok, Err}
 use Rattle.names.specs.Decimal.{digits_of, padded, low_digits}
-use Rattle.names.specs.Name.{Naming, prefix, suffix, name_of, naming, name_into, named_as}
+use Rattle.names.specs.Name.{Naming, prefix, suffix, name_of, naming, name_into}
 use Rattle.names.proofs.Digits.{length-padded, digits_most, padded_width}
 
 pub length_parts : (id : ℕ) → length (name_of id) ≡ 4 + length (padded 8 (digits_of id)) + 4
@@ -42,31 +42,31 @@ name_stored l id n e =
     let b : 4 + length ds ≡ 0 + length (prefix ++ ds) = omega (arith, length-prefix, length-append prefix ds) in
     rw (e, ← padded_width 8 id, ← sets_join l (prefix ++ ds) suffix 0 (4 + length ds) b, ← sets_join l prefix ds 0 4 a)
 
-pub refuses : (id : ℕ) (l : List ℕ) → length l < length (name_of id) → naming (Refused InvalidBuffer) l ≡ name_into id l
+pub refuses : (id : ℕ) (l : List ℕ) → length l < length (name_of id) → naming (Err InvalidBuffer) l ≡ name_into id l
 unfolding name_into
 refuses id l h = rw (lt-leb _ _ h)
 
-pub accepts : (id : ℕ) (l : List ℕ) (n : ℕ) (k : List ℕ) → length (name_of id) ≤ length l → n ≡ length (name_of id) → k ≡ sets l 0 (name_of id) → naming (Written n) k ≡ name_into id l
+pub accepts : (id : ℕ) (l : List ℕ) (n : ℕ) (k : List ℕ) → length (name_of id) ≤ length l → n ≡ length (name_of id) → k ≡ sets l 0 (name_of id) → naming (Ok n) k ≡ name_into id l
 unfolding name_into
 accepts id l n k h e f = rw (le-leb _ _ h, e, f)
 
 -- a target that is long enough: the answer, and the bytes that were written
-module _ (id : ℕ) (l : List ℕ) (r : Named) (k : List ℕ) (w : naming r k ≡ name_into id l) (h : length (name_of id) ≤ length l) where
+module _ (id : ℕ) (l : List ℕ) (r : Result ℕ Refusal) (k : List ℕ) (w : naming r k ≡ name_into id l) (h : length (name_of id) ≤ length l) where
   whole : naming r k ≡ record { answer = accepted (length (name_of id)); target = sets l 0 (name_of id) }
   unfolding name_into
   whole = w ∙ rw (le-leb _ _ h)
 
-  answered : named_as r ≡ accepted (length (name_of id))
+  answered : answer_of r ≡ accepted (length (name_of id))
   answered = ap (λ (x : Naming). x.answer) whole
 
-  pub not_refused : (e : Refusal) → r ≡ Refused e → ⊥
+  pub not_refused : (e : Refusal) → r ≡ Err e → ⊥
   not_refused e f =
-      let g : refused (number_of e) ≡ accepted (length (name_of id)) = sym (ap named_as f) ∙ answered in
+      let g : refused (number_of e) ≡ accepted (length (name_of id)) = sym (ap answer_of f) ∙ answered in
       let z : ◌≡◌ {A = ℕ} 0 1 = cc in omega arith
 
-  pub written_count : (n : ℕ) → r ≡ Written n → n ≡ length (name_of id)
+  pub written_count : (n : ℕ) → r ≡ Ok n → n ≡ length (name_of id)
   written_count n e =
-      let f : accepted n ≡ accepted (length (name_of id)) = sym (ap named_as e) ∙ answered in cc
+      let f : accepted n ≡ accepted (length (name_of id)) = sym (ap answer_of e) ∙ answered in cc
 
   stored : k ≡ sets l 0 (name_of id)
   stored = ap (λ (x : Naming). x.target) whole

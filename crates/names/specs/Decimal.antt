@@ -1,8 +1,8 @@
 -- Decimal numerals as bytes: the digits of a number, and the number of digits.
 -- Assumes nothing.
 use Rattle.std.specs.Prelude.{Bool, true, false, cond, ◌&&◌, List, [], ◌∷◌, ◌++◌, ℕ, zero, suc, ◌+◌, ◌-◌, ◌*◌, ◌/◌, ◌%◌, ◌^◌, leb, ltb, length, replicate}
-use Rattle.names.specs.declared.decimal.Number.{Number}
-use Rattle.names.specs.declared.decimal.Number.TheVariants.{NoNumber, Value}
+use Rattle.std.specs.declared.option.Option.{Option}
+use Rattle.std.specs.declared.option.Option.TheVariants.{None, Some}
 
 -- the byte of a digit: `0` is 48, `9` is 57
 abbrev pub byte_of : ℕ → ℕ
@@ -43,10 +43,10 @@ abbrev pub value_of : List ℕ → ℕ
 value_of digits = value_after 0 digits
 
 -- digits written after v, if the number is below 2^64
-unfoldable pub number_after : ℕ → List ℕ → Number
-number_after v digits = cond (all_digits digits && ltb (value_after v digits) (2 ^ 64)) (Value (value_after v digits)) NoNumber
+unfoldable pub number_after : ℕ → List ℕ → Option ℕ
+number_after v digits = cond (all_digits digits && ltb (value_after v digits) (2 ^ 64)) (Some (value_after v digits)) None
 
 -- "one or more digits .., below 2^64"
-unfoldable pub number_in : List ℕ → Number
-number_in [] = NoNumber
+unfoldable pub number_in : List ℕ → Option ℕ
+number_in [] = None
 number_in (b ∷ bs) = number_after 0 (b ∷ bs)

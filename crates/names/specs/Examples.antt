@@ -1,9 +1,11 @@
 -- Worked examples, by computation. The names are written out as bytes.
 -- Assumes nothing.
-use Rattle.std.specs.Prelude.{◌≡◌, refl, true, false, List, [], ◌∷◌, ◌++◌, ℕ, ◌-◌, ◌^◌, length, replicate}
+use Rattle.std.specs.Prelude.{◌≡◌, refl, Bool, true, false, List, [], ◌∷◌, ◌++◌, ℕ, ◌-◌, ◌^◌, length, replicate}
 use Rattle.fields.specs.Order.{compare_bytes, same_bytes}
 use Rattle.refusal.specs.Answer.{refused, accepted}
-use Rattle.names.specs.declared.Parsed.TheVariants.{NoName, Id}
+use Rattle.std.specs.declared.option.Option.{Option}
+use Rattle.std.specs.declared.option.Option.TheVariants.{None, Some}
+use Rattle.names.specs.declared.Parsed.{Parsed}
 use Rattle.names.specs.Decimal.{digits_by, digits_of, padded, all_digits, value_after, number_after, number_in}
 use Rattle.names.specs.Name.{prefix, suffix, name_of, name_into, is_framed, between, without_plus, parsed_as, read_of}
 
@@ -31,29 +33,32 @@ named = (refl, refl)
 abbrev around : List ℕ → List ℕ
 around text = prefix ++ text ++ suffix
 
+abbrev parsed : (id : ℕ) → (kept : Bool) → Option Parsed
+parsed id kept = Some (record { id = id; kept = kept })
+
 reads :
     -- "`wal-1.log` reads as 1."
-    (read_of (around (49 ∷ [])) ≡ Id 1 false)
+    (read_of (around (49 ∷ [])) ≡ parsed 1 false)
     -- `wal-+00000001.log`
-    × (read_of (around (43 ∷ 48 ∷ 48 ∷ 48 ∷ 48 ∷ 48 ∷ 48 ∷ 48 ∷ 49 ∷ [])) ≡ Id 1 false)
+    × (read_of (around (43 ∷ 48 ∷ 48 ∷ 48 ∷ 48 ∷ 48 ∷ 48 ∷ 48 ∷ 49 ∷ [])) ≡ parsed 1 false)
     -- `wal-123456789.log`
-    × (read_of (around (49 ∷ 50 ∷ 51 ∷ 52 ∷ 53 ∷ 54 ∷ 55 ∷ 56 ∷ 57 ∷ [])) ≡ Id 123456789 true)
+    × (read_of (around (49 ∷ 50 ∷ 51 ∷ 52 ∷ 53 ∷ 54 ∷ 55 ∷ 56 ∷ 57 ∷ [])) ≡ parsed 123456789 true)
     -- `wal-18446744073709551615.log`
-    × (read_of (around (49 ∷ 56 ∷ 52 ∷ 52 ∷ 54 ∷ 55 ∷ 52 ∷ 52 ∷ 48 ∷ 55 ∷ 51 ∷ 55 ∷ 48 ∷ 57 ∷ 53 ∷ 53 ∷ 49 ∷ 54 ∷ 49 ∷ 53 ∷ [])) ≡ Id (2 ^ 64 - 1) true)
+    × (read_of (around (49 ∷ 56 ∷ 52 ∷ 52 ∷ 54 ∷ 55 ∷ 52 ∷ 52 ∷ 48 ∷ 55 ∷ 51 ∷ 55 ∷ 48 ∷ 57 ∷ 53 ∷ 53 ∷ 49 ∷ 54 ∷ 49 ∷ 53 ∷ [])) ≡ parsed (2 ^ 64 - 1) true)
     -- `wal-18446744073709551616.log`
-    × (read_of (around (49 ∷ 56 ∷ 52 ∷ 52 ∷ 54 ∷ 55 ∷ 52 ∷ 52 ∷ 48 ∷ 55 ∷ 51 ∷ 55 ∷ 48 ∷ 57 ∷ 53 ∷ 53 ∷ 49 ∷ 54 ∷ 49 ∷ 54 ∷ [])) ≡ NoName)
+    × (read_of (around (49 ∷ 56 ∷ 52 ∷ 52 ∷ 54 ∷ 55 ∷ 52 ∷ 52 ∷ 48 ∷ 55 ∷ 51 ∷ 55 ∷ 48 ∷ 57 ∷ 53 ∷ 53 ∷ 49 ∷ 54 ∷ 49 ∷ 54 ∷ [])) ≡ None)
     -- `wal-.log`
-    × (read_of (around []) ≡ NoName)
+    × (read_of (around []) ≡ None)
     -- `wal-+.log`
-    × (read_of (around (43 ∷ [])) ≡ NoName)
+    × (read_of (around (43 ∷ [])) ≡ None)
     -- `wal-++1.log`
-    × (read_of (around (43 ∷ 43 ∷ 49 ∷ [])) ≡ NoName)
+    × (read_of (around (43 ∷ 43 ∷ 49 ∷ [])) ≡ None)
     -- `wal-1a.log`
-    × (read_of (around (49 ∷ 97 ∷ [])) ≡ NoName)
+    × (read_of (around (49 ∷ 97 ∷ [])) ≡ None)
     -- `wal-log`: the suffix is looked for after the prefix
-    × (read_of (119 ∷ 97 ∷ 108 ∷ 45 ∷ 108 ∷ 111 ∷ 103 ∷ []) ≡ NoName)
+    × (read_of (119 ∷ 97 ∷ 108 ∷ 45 ∷ 108 ∷ 111 ∷ 103 ∷ []) ≡ None)
     -- `val-1.log` and `wal-1.lug`
-    × (read_of (118 ∷ 97 ∷ 108 ∷ 45 ∷ 49 ∷ 46 ∷ 108 ∷ 111 ∷ 103 ∷ []) ≡ NoName)
-    × (read_of (119 ∷ 97 ∷ 108 ∷ 45 ∷ 49 ∷ 46 ∷ 108 ∷ 117 ∷ 103 ∷ []) ≡ NoName)
+    × (read_of (118 ∷ 97 ∷ 108 ∷ 45 ∷ 49 ∷ 46 ∷ 108 ∷ 111 ∷ 103 ∷ []) ≡ None)
+    × (read_of (119 ∷ 97 ∷ 108 ∷ 45 ∷ 49 ∷ 46 ∷ 108 ∷ 117 ∷ 103 ∷ []) ≡ None)
 unfolding prefix suffix digits_by digits_of padded name_of all_digits value_after number_after number_in is_framed between without_plus parsed_as read_of compare_bytes same_bytes
 reads = (refl, refl, refl, refl, refl, refl, refl, refl, refl, refl, refl, refl)

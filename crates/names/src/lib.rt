@@ -3,9 +3,9 @@
 
 ghost use Rattle.std.specs.Prelude.{◌≡◌};
 ghost use Rattle.fields.specs.Order.{same_bytes};
-ghost use Rattle.names.specs.Name.{name_of, naming, name_into, is_framed, without_plus, read_of};
+ghost use Rattle.std.specs.Option.{option_copied};
+ghost use Rattle.names.specs.Name.{name_of, naming, name_into, text_of, without_plus, read_of};
 
-use decimal::Number;
 use refusal::Refusal;
 
 mod decimal;
@@ -17,83 +17,59 @@ const SUFFIX: [u8; 4] = *b".log";
 // The longest name: its id has 20 digits.
 const NAME_MOST: usize = PREFIX.len() + 20 + SUFFIX.len();
 
-#[derive(Clone, Copy)]
-pub enum Named {
-    Refused(Refusal),
-    // The name's length.
-    Written(usize),
+// `kept`: writing the id gives the same name back. No other name is kept, or one file would be read twice.
+#[derive(Clone, Copy, Debug, PartialEq, Eq)]
+pub struct Parsed {
+    pub id: u64,
+    pub kept: bool,
 }
 
-#[derive(Clone, Copy)]
-pub enum Parsed {
-    NoName,
-    // `kept`: writing the id gives the same name back. No other name is kept, or one file would be read twice.
-    Id { id: u64, kept: bool },
-}
-
-// Writes the name of the segment's file to the target's first bytes.
-pub fn segment_name(id: u64, target: &mut [u8]) -> Named
+// Writes the name of the segment's file to the target's first bytes, and answers the name's length.
+pub fn segment_name(id: u64, target: &mut [u8]) -> Result<usize, Refusal>
     ensures { naming result target.new ≡ name_into id target.old }
 {
     let digits = decimal::width(id);
     let end = PREFIX.len() + digits;
     if target.len() < end + SUFFIX.len() {
-        return Named::Refused(Refusal::InvalidBuffer);
+        return Err(Refusal::InvalidBuffer);
     }
     fields::bytes::copy(target, 0, &PREFIX);
     decimal::put(target, PREFIX.len(), digits, id);
     fields::bytes::copy(target, end, &SUFFIX);
-    Named::Written(end + SUFFIX.len())
+    Ok(end + SUFFIX.len())
 }
 
-fn is_framed(name: &[u8]) -> bool
-    ensures { result ≡ is_framed name.now }
+// What stands between prefix and suffix, if the name has both.
+fn between(name: &[u8]) -> Option<&[u8]>
+    ensures { option_copied result ≡ text_of name.now }
 {
-    if name.len() < PREFIX.len() + SUFFIX.len() {
-        return false;
-    }
-    if !fields::bytes::same(&name[..PREFIX.len()], &PREFIX) {
-        return false;
-    }
-    let end = name.len() - SUFFIX.len();
-    fields::bytes::same(&name[end..], &SUFFIX)
+    name.strip_prefix(&PREFIX)?.strip_suffix(&SUFFIX)
 }
 
 // The text without a leading `+`.
 fn unsigned(text: &[u8]) -> &[u8]
     ensures { result.now ≡ without_plus text.now }
 {
-    if text.len() == 0 {
-        return text;
-    }
-    if text[0] == b'+' {
-        return &text[1..];
-    }
-    text
+    text.strip_prefix(b"+").unwrap_or(text)
 }
 
-// The target is long enough, so the answer `Refused` never comes.
+// The target is long enough, so the name is never refused.
 fn is_kept(name: &[u8], id: u64) -> bool
     ensures { result ≡ same_bytes name.now (name_of id) }
 {
     let mut written = [0u8; NAME_MOST];
-    let Named::Written(n) = segment_name(id, &mut written) else {
+    let Ok(n) = segment_name(id, &mut written) else {
         return false;
     };
-    fields::bytes::same(name, &written[..n])
+    name == &written[..n]
 }
 
 // Reads the id out of a file's name.
-pub fn parse_segment_name(name: &[u8]) -> Parsed
+pub fn parse_segment_name(name: &[u8]) -> Option<Parsed>
     ensures { result ≡ read_of name.now }
 {
-    if !is_framed(name) {
-        return Parsed::NoName;
-    }
-    let end = name.len() - SUFFIX.len();
-    let Number::Value(id) = decimal::parse(unsigned(&name[PREFIX.len()..end])) else {
-        return Parsed::NoName;
-    };
+    let text = between(name)?;
+    let id = decimal::parse(unsigned(text))?;
     let kept = is_kept(name, id);
-    Parsed::Id { id, kept }
+    Some(Parsed { id, kept })
 }

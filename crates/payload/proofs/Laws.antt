@@ -1,24 +1,30 @@
 -- Laws of the payload: how long it is, how long a well-formed one can be, and what is stored of it.
 -- Assumes nothing.
-use mathlib.Core.Path.{◌≡◌, refl, sym}
-use mathlib.Core.Bool.{true, false, ◌&&◌, and-eq-true_iff, false≢true}
-use mathlib.Core.List.{List, ◌++◌, append-nil, append_assoc}
+use mathlib.Core.Path.{◌≡◌, refl}
+use mathlib.Core.Bool.{true, false, ◌&&◌, and-eq-true_iff}
+use mathlib.Core.List.{List, [], ◌∷◌, ◌++◌, append-nil, append_assoc}
 use mathlib.Core.Option.{Option, some}
-use Prim.Native.Nat.{ℕ, zero, suc, ◌+◌, ◌<◌, ◌≤◌}
+use Prim.Native.Nat.{ℕ, zero, suc, ◌+◌, ◌^◌, ◌<◌, ◌≤◌}
 use native.Mathlib.Omega.{arith}
 use borrow.Author.Tests.{leb-true, le-leb, lt-leb, ne_eqb}
 use lib.Dec.{leb}
-use lib.ListN.{length, length-append}
+use denote.Ref.{Bor}
+use lib.ListN.{length, take, get_or, length-append}
 use lib.Seq.{sets}
 use Rattle.fields.specs.Le.{le_bytes}
 use Rattle.fields.proofs.Numbers.{length_bytes}
 use Rattle.fields.proofs.Stores.{sets_join}
 use Rattle.utf8.specs.Grammar.{is_utf8}
-use Rattle.payload.specs.Kind.{by_kind}
+use Rattle.std.proofs.lemmas.List.Sums.{sum_by-cons, sum_by-take-le}
+use Rattle.payload.specs.Kind.{number_of, by_kind}
 use Rattle.payload.specs.Content.{Content, insert, update, delete, commit, abort, fixed_bytes, part_bytes, payload_of, key_fits, value_fits, well_formed}
-use Rattle.payload.specs.Encode.{asked, is_well_formed, encoding, put_of, encode_of, PartPut}
-use Rattle.payload.specs.declared.Encoded.{Encoded}
-use Rattle.payload.specs.declared.Encoded.TheVariants.{Written, NotWellFormed, NoRoom}
+use Rattle.payload.specs.Encode.{asked, is_well_formed, encoding, put_of, encode_of, joined, joined_length, Put}
+use Rattle.std.specs.declared.result.Result.{Result}
+use Rattle.std.specs.declared.result.Result.TheVariants.{Ok, Err}
+use Rattle.payload.specs.declared.EncodeError.{EncodeError}
+use Rattle.payload.specs.declared.EncodeError.TheVariants.{NotWellFormed, NoRoom}
+use Rattle.payload.specs.declared.kind.Kind.{Kind}
+use Rattle.payload.specs.declared.kind.Kind.TheVariants.{Insert, Update, Delete, Commit, Abort}
 
 -- a number over 4 is no kind
 pub by_other : {A : Type 0} (k : ℕ) (i u d c a o : A) → 4 < k → by_kind k i u d c a o ≡ o
@@ -94,48 +100,88 @@ unfolding part_bytes
 part_stored l at part =
     sets_join l (le_bytes 8 (length part)) part at (at + 8) (rw length_bytes refl)
 
--- what is written so far: these bytes at the front, and `at` stands behind them
-pub record Stored (before bytes after : List ℕ) (at : ℕ) : Type 0 where
-  pub next : at ≡ length bytes
-  pub target : after ≡ sets before 0 bytes
+pub put_fixed : {before after : List ℕ} (kind tx time : ℕ) → after ≡ sets before 0 (fixed_bytes kind tx time) → Put before 0 (fixed_bytes kind tx time) after 20
+put_fixed kind tx time e = record { next = omega (arith, length_fixed kind tx time); target = e }
 
-pub stored_fixed : {before after : List ℕ} (kind tx time : ℕ) → after ≡ sets before 0 (fixed_bytes kind tx time) → Stored before (fixed_bytes kind tx time) after 20
-stored_fixed kind tx time e = record { next = sym (length_fixed kind tx time); target = e }
-
-pub stored_part : {before bytes mid part after : List ℕ} {at r : ℕ} → Stored before bytes mid at → PartPut mid at part after r → Stored before (bytes ++ part_bytes part) after r
-stored_part {before} {bytes} {mid} {part} {after} {at} s p =
+-- what is put behind what was put
+pub put_behind : {before first mid second after : List ℕ} {at r next : ℕ} → Put before at first mid r → Put mid r second after next → Put before at (first ++ second) after next
+put_behind {before} {first} {mid} {second} {after} {at} p q =
     record {
       next = rw length-append (omega arith);
-      target = cc (sets_join before bytes (part_bytes part) 0 at (omega arith));
+      target = cc (sets_join before first second at _ p.next);
     }
 
 -- a payload that has room, and one that has none
-pub put_all : (payload before after : List ℕ) (n : ℕ) → Stored before payload after n → length payload ≤ length before → encoding (Written n) after ≡ put_of payload before
+pub put_all : (payload before after : List ℕ) (n : ℕ) → Put before 0 payload after n → length payload ≤ length before → encoding (Ok n) after ≡ put_of payload before
 unfolding put_of
 put_all payload before after n s h =
-    rw (le-leb (length payload) (length before) h, ← s.next, ← s.target)
+    let e : n ≡ length payload = omega (arith, s.next) in
+    rw (le-leb (length payload) (length before) h, ← e, ← s.target)
 
-pub put_nothing : (payload before : List ℕ) → length before < length payload → encoding NoRoom before ≡ put_of payload before
+pub put_nothing : (payload before : List ℕ) → length before < length payload → encoding (Err NoRoom) before ≡ put_of payload before
 unfolding put_of
 put_nothing payload before h = rw (lt-leb (length payload) (length before) h)
 
--- what `encode` answers: of what is not well-formed, of what is, and of a marker
-pub refused : (content : Option Content) (tx time : ℕ) (before : List ℕ) → is_well_formed content ≡ false → encoding NotWellFormed before ≡ encode_of content tx time before
+-- ---- parts, one behind the other
+
+abbrev part_length : Bor (List ℕ) → ℕ
+part_length part = 8 + length part.now
+
+pub length_joined : (parts : List (Bor (List ℕ))) → length (joined parts) ≡ joined_length parts
+unfolding joined
+length_joined [] = refl
+length_joined (part ∷ parts) = rw (length-append, length_part, length_joined parts, sum_by-cons part_length part parts)
+
+pub joined_more : (parts : List (Bor (List ℕ))) (i : ℕ) (d : Bor (List ℕ)) → i < length parts → joined (take (suc i) parts) ≡ joined (take i parts) ++ part_bytes (get_or parts i d).now
+unfolding joined
+joined_more [] i d h = absurd (omega arith)
+joined_more (part ∷ parts) zero d h = append-nil _
+joined_more (part ∷ parts) (suc i) d h = rw (joined_more parts i d (omega arith), append_assoc)
+
+-- the next part has room too
+pub joined_room : (parts : List (Bor (List ℕ))) (i : ℕ) (d : Bor (List ℕ)) → i < length parts → length (joined (take i parts)) + (8 + length (get_or parts i d).now) ≤ joined_length parts
+joined_room parts i d h =
+    let e : length (joined (take (suc i) parts)) ≡ length (joined (take i parts)) + (8 + length (get_or parts i d).now) = rw (joined_more parts i d h, length-append, length_part) in
+    let f = length_joined (take (suc i) parts) in
+    omega (arith, e, f, sum_by-take-le part_length parts (suc i))
+
+-- ---- what `encode` answers: of what is not well-formed, and of what is
+
+pub unknown : (number : ℕ) (key old new : List ℕ) → 4 < number → is_well_formed (asked number key old new) ≡ false
+unfolding asked
+unknown number key old new h = rw (by_other number _ _ _ _ _ _ h)
+
+pub refused : (content : Option Content) (tx time : ℕ) (before : List ℕ) → is_well_formed content ≡ false → encoding (Err NotWellFormed) before ≡ encode_of content tx time before
 unfolding encode_of
 refused content tx time before e = rw e
 
-pub accepted : (content : Content) (tx time : ℕ) (before after : List ℕ) (r : Encoded) → well_formed content ≡ true → encoding r after ≡ put_of (payload_of tx time content) before → encoding r after ≡ encode_of (some content) tx time before
+accepted : (content : Content) (tx time : ℕ) (before after : List ℕ) (r : Result ℕ EncodeError) → well_formed content ≡ true → encoding r after ≡ put_of (payload_of tx time content) before → encoding r after ≡ encode_of (some content) tx time before
 unfolding encode_of
 accepted content tx time before after r e p = rw e p
 
-pub marked : (kind tx time : ℕ) (key old new before after : List ℕ) (r : Encoded) → 2 < kind → is_well_formed (asked kind key old new) ≡ true → encoding r after ≡ put_of (fixed_bytes kind tx time) before → encoding r after ≡ encode_of (asked kind key old new) tx time before
-unfolding asked by_kind payload_of
-marked zero tx time key old new before after r h e p = absurd (omega arith)
-marked (suc zero) tx time key old new before after r h e p = absurd (omega arith)
-marked (suc (suc zero)) tx time key old new before after r h e p = absurd (omega arith)
-marked (suc (suc (suc zero))) tx time key old new before after r h e p =
-    accepted commit tx time before after r e (rw append-nil p)
-marked (suc (suc (suc (suc zero)))) tx time key old new before after r h e p =
-    accepted abort tx time before after r e (rw append-nil p)
-marked (suc (suc (suc (suc (suc k))))) tx time key old new before after r h e p =
-    absurd (false≢true (rw (by_other (suc (suc (suc (suc (suc k))))) _ _ _ _ _ _ (omega arith)) at e))
+-- the parts that the kind has
+abbrev pub parts_for : Kind → (key old new : Bor (List ℕ)) → List (Bor (List ℕ))
+parts_for Insert key old new = key ∷ new ∷ []
+parts_for Update key old new = key ∷ old ∷ new ∷ []
+parts_for Delete key old new = key ∷ old ∷ []
+parts_for Commit key old new = []
+parts_for Abort key old new = []
+
+module _ (tx time : ℕ) (key old new : Bor (List ℕ)) (before after : List ℕ) (r : Result ℕ EncodeError) where
+  pub put_answers : (kind : Kind) (number : ℕ) → number_of kind ≡ number → is_well_formed (asked (number_of kind) key.now old.now new.now) ≡ true → encoding r after ≡ put_of (fixed_bytes (number_of kind) tx time ++ joined (parts_for kind key old new)) before → encoding r after ≡ encode_of (asked number key.now old.now new.now) tx time before
+  unfolding asked by_kind payload_of joined
+  put_answers Insert number n e p = rw (← n) (accepted (insert key.now new.now) tx time before after r e (rw append-nil at p))
+  put_answers Update number n e p = rw (← n) (accepted (update key.now old.now new.now) tx time before after r e (rw append-nil at p))
+  put_answers Delete number n e p = rw (← n) (accepted (delete key.now old.now) tx time before after r e (rw append-nil at p))
+  put_answers Commit number n e p = rw (← n) (accepted commit tx time before after r e p)
+  put_answers Abort number n e p = rw (← n) (accepted abort tx time before after r e p)
+
+-- ---- that a well-formed entry's parts are not too long to be added up
+
+pub parts_fit : (kind : Kind) (key old new : Bor (List ℕ)) → is_well_formed (asked (number_of kind) key.now old.now new.now) ≡ true → 20 + joined_length (parts_for kind key old new) < 2 ^ 64
+unfolding asked by_kind
+parts_fit Insert key old new e = let l = limits (insert key.now new.now) e in omega (arith, l.0, l.1)
+parts_fit Update key old new e = let l = limits (update key.now old.now new.now) e in omega (arith, l.0, l.1, l.2)
+parts_fit Delete key old new e = let l = limits (delete key.now old.now) e in omega (arith, l.0, l.1)
+parts_fit Commit key old new e = omega arith
+parts_fit Abort key old new e = omega arith

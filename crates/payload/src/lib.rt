@@ -1,12 +1,14 @@
 // A payload is written as bincode 1.x writes `ByteWalEntry`.
 #![tactic(auto)]
 
-ghost use Rattle.std.specs.Prelude.{◌≡◌, ◌+◌, ◌≤◌, ◌++◌, length};
+ghost use Rattle.std.specs.Prelude.{◌≡◌, ◌+◌, ◌^◌, ◌<◌, ◌≤◌, ◌++◌, length};
 ghost use Rattle.std.proofs.lemmas.List.Edits.{sets};
-ghost use Rattle.payload.specs.Content.{part_bytes, fixed_bytes, key_fits};
-ghost use Rattle.payload.specs.Encode.{asked, is_well_formed, encoding, put_of, encode_of, PartPut};
+ghost use Rattle.payload.specs.Kind.{number_of};
+ghost use Rattle.payload.specs.Content.{fixed_bytes, part_bytes, key_fits};
+ghost use Rattle.payload.specs.Encode.{asked, is_well_formed, encoding, put_of, encode_of, joined, joined_length, Put};
+ghost use Rattle.payload.specs.declared.EncodeError.TheVariants.{NotWellFormed};
 
-use kind::{ABORT, COMMIT, DELETE, INSERT, UPDATE};
+use kind::{Kind, UnknownKind};
 
 pub mod kind;
 
@@ -24,41 +26,57 @@ pub const LENGTH: usize = 8;
 // The longest payload of a well-formed entry: an update's.
 pub const PAYLOAD_MOST: usize = FIXED + 3 * LENGTH + KEY_MOST + 2 * VALUE_MOST;
 
-#[derive(Clone, Copy)]
-pub enum Encoded {
-    // How many bytes were written at the target's front.
-    Written(usize),
+// Why nothing was written.
+#[derive(Clone, Copy, Debug, PartialEq, Eq)]
+pub enum EncodeError {
     NotWellFormed,
     NoRoom,
 }
 
+impl From<UnknownKind> for EncodeError {
+    ghost from_gives = { λ _ e. e ≡ NotWellFormed };
+
+    fn from(_unknown: UnknownKind) -> EncodeError {
+        EncodeError::NotWellFormed
+    }
+}
+
+#[tactic(auto, unfolding(crate::specs::Content::key_fits))]
 fn key_fits(key: &[u8]) -> bool
     ensures { result ≡ key_fits key.now }
 {
-    if KEY_MOST < key.len() {
-        return false;
-    }
-    utf8::is_utf8(key)
+    key.len() <= KEY_MOST && utf8::is_utf8(key)
 }
 
 // Only the parts that the kind has are looked at.
-pub fn well_formed(kind: u64, key: &[u8], old_value: &[u8], new_value: &[u8]) -> bool
-    ensures { result ≡ is_well_formed (asked kind key.now old_value.now new_value.now) }
+#[tactic(auto, unfolding(crate::specs::Encode::asked, crate::specs::Kind::by_kind, crate::specs::Content::well_formed, crate::specs::Content::value_fits))]
+fn fits(kind: Kind, key: &[u8], old_value: &[u8], new_value: &[u8]) -> bool
+    ensures { result ≡ is_well_formed (asked (number_of kind) key.now old_value.now new_value.now) }
 {
     match kind {
-        INSERT => key_fits(key) && new_value.len() <= VALUE_MOST,
-        UPDATE => key_fits(key) && (old_value.len() <= VALUE_MOST && new_value.len() <= VALUE_MOST),
-        DELETE => key_fits(key) && old_value.len() <= VALUE_MOST,
-        COMMIT => true,
-        ABORT => true,
-        _ => false,
+        Kind::Insert => key_fits(key) && new_value.len() <= VALUE_MOST,
+        Kind::Update => {
+            key_fits(key) && (old_value.len() <= VALUE_MOST && new_value.len() <= VALUE_MOST)
+        }
+        Kind::Delete => key_fits(key) && old_value.len() <= VALUE_MOST,
+        Kind::Commit => true,
+        Kind::Abort => true,
     }
 }
 
-fn put_fixed(target: &mut [u8], kind: u64, tx_id: u64, timestamp: u64)
-    ensures { target.new ≡ sets target.old 0 (fixed_bytes kind tx_id timestamp) }
+pub fn well_formed(kind: u64, key: &[u8], old_value: &[u8], new_value: &[u8]) -> bool
+    ensures { result ≡ is_well_formed (asked kind key.now old_value.now new_value.now) }
 {
-    fields::put_le(target, 0, 4, kind);
+    match Kind::try_from(kind) {
+        Ok(kind) => fits(kind, key, old_value, new_value),
+        Err(_) => false,
+    }
+}
+
+fn put_fixed(target: &mut [u8], kind: Kind, tx_id: u64, timestamp: u64)
+    ensures { target.new ≡ sets target.old 0 (fixed_bytes (number_of kind) tx_id timestamp) }
+{
+    fields::put_le(target, 0, 4, kind.number());
     fields::put_u64(target, 4, tx_id);
     fields::put_u64(target, 12, timestamp);
 }
@@ -66,63 +84,48 @@ fn put_fixed(target: &mut [u8], kind: u64, tx_id: u64, timestamp: u64)
 // Answers the place behind the part.
 fn put_part(target: &mut [u8], at: usize, part: &[u8]) -> usize
     requires { at + 8 + length part.now ≤ length target.old }
-    ensures { PartPut target.old at part.now target.new result }
+    ensures { Put target.old at (part_bytes part.now) target.new result }
 {
     fields::put_u64(target, at, part.len() as u64);
     fields::bytes::copy(target, at + LENGTH, part);
     at + LENGTH + part.len()
 }
 
-fn put_marker(target: &mut [u8], kind: u64, tx_id: u64, timestamp: u64) -> Encoded
-    ensures { encoding result target.new ≡ put_of (fixed_bytes kind tx_id timestamp) target.old }
+fn parts_len(parts: &[&[u8]]) -> usize
+    requires { joined_length parts.now < 2 ^ 64 }
+    ensures { result ≡ joined_length parts.now }
 {
-    if target.len() < FIXED {
-        return Encoded::NoRoom;
-    }
-    put_fixed(target, kind, tx_id, timestamp);
-    Encoded::Written(FIXED)
+    parts.iter().map(|part| LENGTH + part.len()).sum()
 }
 
-fn put_two(
-    target: &mut [u8],
-    kind: u64,
-    tx_id: u64,
-    timestamp: u64,
-    key: &[u8],
-    value: &[u8],
-) -> Encoded
-    requires { (length key.now ≤ 64) × (length value.now ≤ 252) }
-    ensures { encoding result target.new ≡ put_of (fixed_bytes kind tx_id timestamp ++ (part_bytes key.now ++ part_bytes value.now)) target.old }
+// Answers the place behind the last part.
+fn put_parts(target: &mut [u8], at: usize, parts: &[&[u8]]) -> usize
+    requires { at + joined_length parts.now ≤ length target.old }
+    ensures { Put target.old at (joined parts.now) target.new result }
 {
-    let n = FIXED + 2 * LENGTH + key.len() + value.len();
-    if target.len() < n {
-        return Encoded::NoRoom;
+    let mut next = at;
+    for part in parts {
+        next = put_part(target, next, part);
     }
-    put_fixed(target, kind, tx_id, timestamp);
-    let at = put_part(target, FIXED, key);
-    Encoded::Written(put_part(target, at, value))
+    next
 }
 
-fn put_three(
+// The whole payload, or nothing where it does not fit.
+fn put(
     target: &mut [u8],
-    kind: u64,
+    kind: Kind,
     tx_id: u64,
     timestamp: u64,
-    key: &[u8],
-    old_value: &[u8],
-    new_value: &[u8],
-) -> Encoded
-    requires { (length key.now ≤ 64) × (length old_value.now ≤ 252) × (length new_value.now ≤ 252) }
-    ensures { encoding result target.new ≡ put_of (fixed_bytes kind tx_id timestamp ++ (part_bytes key.now ++ (part_bytes old_value.now ++ part_bytes new_value.now))) target.old }
+    parts: &[&[u8]],
+) -> Result<usize, EncodeError>
+    requires { 20 + joined_length parts.now < 2 ^ 64 }
+    ensures { encoding result target.new ≡ put_of (fixed_bytes (number_of kind) tx_id timestamp ++ joined parts.now) target.old }
 {
-    let n = FIXED + 3 * LENGTH + key.len() + old_value.len() + new_value.len();
-    if target.len() < n {
-        return Encoded::NoRoom;
+    if target.len() < FIXED + parts_len(parts) {
+        return Err(EncodeError::NoRoom);
     }
     put_fixed(target, kind, tx_id, timestamp);
-    let at = put_part(target, FIXED, key);
-    let at = put_part(target, at, old_value);
-    Encoded::Written(put_part(target, at, new_value))
+    Ok(put_parts(target, FIXED, parts))
 }
 
 // An insert's value is `new_value`, a delete's `old_value`.
@@ -134,16 +137,17 @@ pub fn encode(
     old_value: &[u8],
     new_value: &[u8],
     target: &mut [u8],
-) -> Encoded
+) -> Result<usize, EncodeError>
     ensures { encoding result target.new ≡ encode_of (asked kind key.now old_value.now new_value.now) tx_id timestamp target.old }
 {
-    if !well_formed(kind, key, old_value, new_value) {
-        return Encoded::NotWellFormed;
+    let kind = Kind::try_from(kind)?;
+    if !fits(kind, key, old_value, new_value) {
+        return Err(EncodeError::NotWellFormed);
     }
     match kind {
-        INSERT => put_two(target, kind, tx_id, timestamp, key, new_value),
-        UPDATE => put_three(target, kind, tx_id, timestamp, key, old_value, new_value),
-        DELETE => put_two(target, kind, tx_id, timestamp, key, old_value),
-        _ => put_marker(target, kind, tx_id, timestamp),
+        Kind::Insert => put(target, kind, tx_id, timestamp, &[key, new_value]),
+        Kind::Update => put(target, kind, tx_id, timestamp, &[key, old_value, new_value]),
+        Kind::Delete => put(target, kind, tx_id, timestamp, &[key, old_value]),
+        Kind::Commit | Kind::Abort => put(target, kind, tx_id, timestamp, &[]),
     }
 }

@@ -10,6 +10,8 @@ use borrow.Author.Tests.{lt-ltb}
 use lib.Dec.{leb, eqb}
 use lib.ListN.{length, get_or}
 use lib.Seq.{sets, get_or_at}
+use Rattle.std.specs.declared.option.Option.{Option}
+use Rattle.std.specs.declared.option.Option.TheVariants.{None, Some}
 use Rattle.fields.proofs.Cases.{case_b, tests}
 use Rattle.refusal.specs.Answer.{refused, accepted, and_then, sound}
 use Rattle.refusal.proofs.Answers.{never_both, then_says}
@@ -19,7 +21,6 @@ use Rattle.directory.specs.Record.{record_bytes, records_of, end_of}
 use Rattle.directory.specs.Rule.{test_of, end_before, after_record, rule_from}
 use Rattle.directory.specs.declared.record.SegmentRecord.{SegmentRecord}
 use Rattle.directory.specs.declared.rule.Last.{Last}
-use Rattle.directory.specs.declared.rule.Last.TheVariants.{NoSegment, Segment}
 use Rattle.directory.proofs.Records.{Held, length_records, record_of, records_snoc, records_more}
 use Rattle.directory.proofs.Rules.{Follows, follows_says, follows_so, last_of, last_record, rule_snoc}
 use Rattle.directory.proofs.Sound.{sound_says, sound_ends, sound_last, sound_stored}
@@ -29,18 +30,15 @@ use Rattle.plan.specs.declared.Write.{Write}
 -- ---- a new segment
 
 -- neither 4 nor 5 refuses it
-pub record HasNext (last : Last) (used records : ℕ) : Type 0 where
+pub record HasNext (last : Option Last) (used records : ℕ) : Type 0 where
   pub id : no_next_id last ≡ false
   pub unused : used < records
 
-next_says : (last : Last) (used records : ℕ) (s : SegmentRecord) → next_of last used records ≡ accepted s → HasNext last used records × (s ≡ new_segment last)
+next_says : (last : Option Last) (used records : ℕ) (s : SegmentRecord) → next_of last used records ≡ accepted s → HasNext last used records × (s ≡ new_segment last)
 unfolding next_of
-next_says last used records s e = told (no_next_id last) refl (leb records used) refl e
-  where
-    told : (p : Bool) → no_next_id last ≡ p → (q : Bool) → leb records used ≡ q → cond p (refused 4) (cond q (refused 5) (accepted (new_segment last))) ≡ accepted s → HasNext last used records × (s ≡ new_segment last)
-    told true f q g e = never_both e
-    told false f true g e = never_both e
-    told false f false g e = (record { id = f; unused = omega (arith, tests) }, cc)
+next_says last used records s e =
+    case_b (no_next_id last) (λ f. never_both (rw f at e))
+    (λ f. case_b (leb records used) (λ g. never_both (rw (f, g) at e)) (λ g. (record { id = f; unused = omega (arith, tests) }, cc (rw (f, g) at e))))
 
 -- it has no bytes yet
 pub new_end : (r s : SegmentRecord) (used records : ℕ) → next_of (after_record r) used records ≡ accepted s → end_of s ≡ end_of r
@@ -56,27 +54,24 @@ pub record IsBehind (s : SegmentRecord) (k : ℕ) (rotated : Bool) (area payload
 
 behind_says : (s : SegmentRecord) (k : ℕ) (rotated : Bool) (area payload : ℕ) (w : Write) → behind_of s k rotated area payload ≡ accepted w → IsBehind s k rotated area payload w
 unfolding behind_of
-behind_says s k rotated area payload w e = told (leb (13 + payload) (area - end_of s)) refl e
-  where
-    told : (p : Bool) → leb (13 + payload) (area - end_of s) ≡ p → cond p (accepted (write_behind s k rotated payload)) (refused 5) ≡ accepted w → IsBehind s k rotated area payload w
-    told false f e = never_both e
-    told true f e = record { room = omega (arith, tests); write = cc }
+behind_says s k rotated area payload w e =
+    case_b (leb (13 + payload) (area - end_of s)) (λ f. record { room = omega (arith, tests); write = cc (rw f at e) }) (λ f. never_both (rw f at e))
 
 -- ---- the last used record: the active segment's
 
 module _ (d : List ℕ) (used : ℕ) (h : 0 < used) where
-  pub last_is : last_of NoSegment (records_of used d) ≡ after_record (last_used d used)
+  pub last_is : last_of None (records_of used d) ≡ after_record (last_used d used)
   last_is =
       let e : used ≡ used - 1 + 1 = omega arith in
-      ap (λ (n : ℕ). last_of NoSegment (records_of n d)) e ∙ last_record NoSegment (used - 1) d
+      ap (λ (n : ℕ). last_of None (records_of n d)) e ∙ last_record None (used - 1) d
 
   pub last_in_lem : (area : ℕ) → test_of area d used ≡ sound → end_of (last_used d used) ≤ area
   last_in_lem area e = sound_ends area d used e (used - 1) (omega arith)
 
 -- the last id has 8 bytes
-abbrev pub IdFits : Last → Type 0
-IdFits NoSegment = Unit {0}
-IdFits (Segment id end) = id < 2 ^ 64
+abbrev pub IdFits : Option Last → Type 0
+IdFits None = Unit {0}
+IdFits (Some last) = last.id < 2 ^ 64
 
 -- ---- a record stored behind the first k: the directory keeps its rule, and has these and then it
 
@@ -86,7 +81,7 @@ pub record Stored (area : ℕ) (d : List ℕ) (k : ℕ) (r : SegmentRecord) : Ty
   pub last : last_used (sets d (24 * k) (record_bytes r)) (k + 1) ≡ r
   pub id : r.id < 2 ^ 64
 
-stores : (area : ℕ) (d : List ℕ) (used k : ℕ) (r : SegmentRecord) → test_of area d used ≡ sound → 24 * (k + 1) ≤ length d → r.id < 2 ^ 64 → rule_from area NoSegment (records_of k d) ≡ true → Follows area (last_of NoSegment (records_of k d)) r → Stored area d k r
+stores : (area : ℕ) (d : List ℕ) (used k : ℕ) (r : SegmentRecord) → test_of area d used ≡ sound → 24 * (k + 1) ≤ length d → r.id < 2 ^ 64 → rule_from area None (records_of k d) ≡ true → Follows area (last_of None (records_of k d)) r → Stored area d k r
 stores area d used k r s unused id rule follows =
     let directory = sets d (24 * k) (record_bytes r) in
     let t = sound_says area d used s in
@@ -94,7 +89,7 @@ stores area d used k r s unused id rule follows =
     let more : records_of (k + 1) directory ≡ records_of k d ++ (r ∷ []) = records_more k d r unused held in
     let one : k + 1 - 1 ≡ k = omega arith in
     record {
-      keeps = sound_stored area d k used r t unused held rule (follows_so area (last_of NoSegment (records_of k d)) r follows);
+      keeps = sound_stored area d k used r t unused held rule (follows_so area (last_of None (records_of k d)) r follows);
       records = more;
       last =
           rw one
@@ -119,26 +114,26 @@ open_says area d used s e =
     record { sounds = t.first; next = n.0; segment = n.1 }
 
 -- what a new segment comes after: nothing, or the last used record
-last_none : (d : List ℕ) → last_in d zero ≡ NoSegment
+last_none : (d : List ℕ) → last_in d zero ≡ None
 unfolding last_in
 last_none d = refl
 
 last_some : (d : List ℕ) (n : ℕ) → last_in d (suc n) ≡ after_record (last_used d (suc n))
 unfolding last_in
-last_some d n = case_b (eqb (suc n) 0) (λ q. absurd (omega (arith, tests))) (λ q. rw q)
+last_some d n = grind arith
 
 -- the same, by the list of the used records
-pub last_in_is : (d : List ℕ) (used : ℕ) → last_of NoSegment (records_of used d) ≡ last_in d used
+pub last_in_is : (d : List ℕ) (used : ℕ) → last_of None (records_of used d) ≡ last_in d used
 unfolding last_of records_of
 last_in_is d zero = rw (last_none d)
 last_in_is d (suc n) = rw (last_some d n) (last_is d (suc n) (omega arith))
 
 -- a new segment follows the last one
-new_follows : (area : ℕ) (last : Last) → end_before last ≤ area → IdFits last → no_next_id last ≡ false → Follows area last (new_segment last) × ((new_segment last).id < 2 ^ 64)
+new_follows : (area : ℕ) (last : Option Last) → end_before last ≤ area → IdFits last → no_next_id last ≡ false → Follows area last (new_segment last) × ((new_segment last).id < 2 ^ 64)
 unfolding new_segment
-new_follows area NoSegment h i e = (record { id = refl; start = omega arith; end = omega arith }, omega arith)
-new_follows area (Segment id end) h i e =
-    (record { id = lt-ltb id (id + 1) (omega arith); start = omega arith; end = omega arith }, omega (arith, tests))
+new_follows area None h i e = (record { id = refl; start = omega arith; end = omega arith }, omega arith)
+new_follows area (Some last) h i e =
+    (record { id = lt-ltb last.id (last.id + 1) (omega arith); start = omega arith; end = omega arith }, omega (arith, tests))
 
 pub open_stores : (area : ℕ) (d : List ℕ) (used : ℕ) (s : SegmentRecord) → IdFits (last_in d used) → new_segment_of area d used ≡ accepted s → Stored area d used s
 open_stores area d used s i e =
@@ -195,11 +190,11 @@ plan_id bound area d used payload w h p =
     (plan_says bound area d used payload w p)
 
 -- the last used record behind those before it
-last_parts : (area : ℕ) (d : List ℕ) (used : ℕ) → 0 < used → test_of area d used ≡ sound → (rule_from area NoSegment (records_of (used - 1) d) ≡ true) × Follows area (last_of NoSegment (records_of (used - 1) d)) (last_used d used)
+last_parts : (area : ℕ) (d : List ℕ) (used : ℕ) → 0 < used → test_of area d used ≡ sound → (rule_from area None (records_of (used - 1) d) ≡ true) × Follows area (last_of None (records_of (used - 1) d)) (last_used d used)
 last_parts area d used h e =
     let n : used ≡ used - 1 + 1 = omega arith in
-    let rule : rule_from area NoSegment (records_of (used - 1 + 1) d) ≡ true = rw (← n) (sound_says area d used e).rule in
-    let p = (and-eq-true_iff _ _).0 (sym (rule_snoc area NoSegment (records_of (used - 1) d) (last_used d used)) ∙ ap (rule_from area NoSegment) (sym (records_snoc (used - 1) d)) ∙ rule) in
+    let rule : rule_from area None (records_of (used - 1 + 1) d) ≡ true = rw (← n) (sound_says area d used e).rule in
+    let p = (and-eq-true_iff _ _).0 (sym (rule_snoc area None (records_of (used - 1) d) (last_used d used)) ∙ ap (rule_from area None) (sym (records_snoc (used - 1) d)) ∙ rule) in
     (p.0, follows_says area _ (last_used d used) p.1)
 
 -- rotated or not

@@ -1,17 +1,13 @@
 -- Document 01, "Writing": what refuses an opening, a rotation or an append, and else what is written where.
 -- Assumes nothing.
 use Rattle.std.specs.Prelude.{Bool, true, false, cond, List, ℕ, ◌+◌, ◌-◌, ◌*◌, ◌/◌, ◌^◌, leb, eqb, length, drop}
-use Rattle.refusal.specs.Number.{number_of}
+use Rattle.std.specs.declared.option.Option.{Option}
+use Rattle.std.specs.declared.option.Option.TheVariants.{None, Some}
 use Rattle.refusal.specs.Answer.{Answer, refused, accepted, and_then, sound}
 use Rattle.directory.specs.Record.{record_at, end_of}
 use Rattle.directory.specs.Rule.{test_of, after_record}
 use Rattle.directory.specs.declared.record.SegmentRecord.{SegmentRecord}
 use Rattle.directory.specs.declared.rule.Last.{Last}
-use Rattle.directory.specs.declared.rule.Last.TheVariants.{NoSegment, Segment}
-use Rattle.plan.specs.declared.NewSegment.{NewSegment}
-use Rattle.plan.specs.declared.NewSegment.TheVariants as New
-use Rattle.plan.specs.declared.Plan.{Plan}
-use Rattle.plan.specs.declared.Plan.TheVariants as Planned
 use Rattle.plan.specs.declared.Write.{Write}
 
 -- ---- the last used record
@@ -21,23 +17,23 @@ abbrev pub last_used : List ℕ → (used : ℕ) → SegmentRecord
 last_used directory used = record_at (drop (24 * (used - 1)) directory)
 
 -- what a new segment comes after
-unfoldable pub last_in : List ℕ → (used : ℕ) → Last
-last_in directory used = cond (eqb used 0) NoSegment (after_record (last_used directory used))
+unfoldable pub last_in : List ℕ → (used : ℕ) → Option Last
+last_in directory used = cond (eqb used 0) None (after_record (last_used directory used))
 
 -- ---- a new segment
 
 -- "id 1 at 0 for an empty directory, else last id plus one, at the last end"
-unfoldable pub new_segment : Last → SegmentRecord
-new_segment NoSegment = record { id = 1; start = 0; length = 0 }
-new_segment (Segment id end) = record { id = id + 1; start = end; length = 0 }
+unfoldable pub new_segment : Option Last → SegmentRecord
+new_segment None = record { id = 1; start = 0; length = 0 }
+new_segment (Some last) = record { id = last.id + 1; start = last.end; length = 0 }
 
 -- 4: "a new segment is needed and the last id is 2^64 - 1"
-abbrev pub no_next_id : Last → Bool
-no_next_id NoSegment = false
-no_next_id (Segment id end) = eqb id (2 ^ 64 - 1)
+abbrev pub no_next_id : Option Last → Bool
+no_next_id None = false
+no_next_id (Some last) = eqb last.id (2 ^ 64 - 1)
 
 -- 5: "a new segment finds no unused directory record"; 4 goes before it
-unfoldable pub next_of : Last → (used records : ℕ) → Answer SegmentRecord
+unfoldable pub next_of : Option Last → (used records : ℕ) → Answer SegmentRecord
 next_of last used records =
     cond (no_next_id last) (refused 4)
     (cond (leb records used) (refused 5) (accepted (new_segment last)))
@@ -46,10 +42,6 @@ next_of last used records =
 unfoldable pub new_segment_of : (area : ℕ) → List ℕ → (used : ℕ) → Answer SegmentRecord
 new_segment_of area directory used =
     and_then (test_of area directory used) (λ _. next_of (last_in directory used) used (length directory / 24))
-
-abbrev pub new_segment_as : NewSegment → Answer SegmentRecord
-new_segment_as (New.Refused refusal) = refused (number_of refusal)
-new_segment_as (New.Record segment) = accepted segment
 
 -- ---- an append
 
@@ -83,7 +75,3 @@ plan_of bound area directory used payload =
 unfoldable pub plan_append_of : (bound area : ℕ) → List ℕ → (used payload : ℕ) → Answer Write
 plan_append_of bound area directory used payload =
     and_then (append_test_of area directory used) (λ _. plan_of bound area directory used payload)
-
-abbrev pub planned_as : Plan → Answer Write
-planned_as (Planned.Refused refusal) = refused (number_of refusal)
-planned_as (Planned.Write w) = accepted w

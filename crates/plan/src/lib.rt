@@ -1,25 +1,21 @@
 // What a call that writes will do: it is refused, or it writes this record and, of an append, at this place.
 #![tactic(auto)]
 
-ghost use Rattle.std.specs.Prelude.{◌≡◌, ◌<◌, ◌≤◌, false};
-ghost use Rattle.refusal.specs.Answer.{sound};
+ghost use Rattle.std.specs.Prelude.{◌≡◌, ◌<◌, ◌≤◌, ◌^◌};
+ghost use Rattle.std.specs.declared.option.Option.TheVariants.{Some};
+ghost use Rattle.refusal.specs.Answer.{answer_of, sound};
 ghost use Rattle.directory.specs.Record.{end_of};
-ghost use Rattle.directory.specs.Rule.{tested_as, test_of};
-ghost use Rattle.plan.specs.Plan.{last_in, new_segment, no_next_id, next_of, new_segment_of, new_segment_as, append_test_of, behind_of, plan_of, plan_append_of, planned_as};
+ghost use Rattle.directory.specs.Rule.{after_record, test_of};
+ghost use Rattle.plan.specs.Plan.{last_in, next_of, new_segment_of, append_test_of, behind_of, plan_of, plan_append_of};
 
 use directory::record::SegmentRecord;
-use directory::rule::{Last, Tested};
+use directory::rule::Last;
 use header::WalEntryHeader;
+use records::record::Record;
 use refusal::Refusal;
 
 // A header's bytes, as a number of the directory.
 const HEADER: u64 = WalEntryHeader::SIZE as u64;
-
-#[derive(Clone, Copy)]
-pub enum NewSegment {
-    Refused(Refusal),
-    Record(SegmentRecord),
-}
 
 // Record `k` becomes `segment`, and the entry goes to `at`.
 #[derive(Clone, Copy)]
@@ -30,114 +26,88 @@ pub struct Write {
     pub rotated: bool,
 }
 
-#[derive(Clone, Copy)]
-pub enum Plan {
-    Refused(Refusal),
-    Write(Write),
-}
-
-fn last_used(area_len: usize, directory: &[u8], used: usize) -> Last
-    requires { test_of area_len directory.now used ≡ sound }
-    ensures { result ≡ last_in directory.now used }
+// What stands before the record behind a segment.
+fn after(segment: SegmentRecord) -> Last
+    requires { end_of segment < 2 ^ 64 }
+    ensures { Some result ≡ after_record segment }
 {
-    if used == 0 {
-        return Last::NoSegment;
-    }
-    let segment = directory::record::record_at(directory, used - 1);
-    Last::Segment {
+    Last {
         id: segment.id,
         end: segment.start + segment.length,
     }
 }
 
-fn no_next_id(last: Last) -> bool
-    ensures { result ≡ no_next_id last }
+fn last_used(area_len: usize, directory: &[u8], used: usize) -> Option<Last>
+    requires { test_of area_len directory.now used ≡ sound }
+    ensures { result ≡ last_in directory.now used }
 {
-    match last {
-        Last::NoSegment => false,
-        Last::Segment { id, .. } => id == 0xffff_ffff_ffff_ffff,
-    }
+    let segment = directory::record::record_at(directory, used.checked_sub(1)?);
+    Some(after(segment))
 }
 
-fn segment_after(last: Last) -> SegmentRecord
-    requires { no_next_id last ≡ false }
-    ensures { result ≡ new_segment last }
+// 4 goes before 5.
+fn next(last: Option<Last>, used: usize, records: usize) -> Result<SegmentRecord, Refusal>
+    ensures { answer_of result ≡ next_of last used records }
 {
-    match last {
-        Last::NoSegment => SegmentRecord {
+    let segment = match last {
+        None => SegmentRecord {
             id: 1,
             start: 0,
             length: 0,
         },
-        Last::Segment { id, end } => SegmentRecord {
-            id: id + 1,
-            start: end,
+        Some(last) => SegmentRecord {
+            id: last.id.checked_add(1).ok_or(Refusal::NoNextSegmentId)?,
+            start: last.end,
             length: 0,
         },
-    }
-}
-
-// 4 goes before 5.
-fn next(last: Last, used: usize, records: usize) -> NewSegment
-    ensures { new_segment_as result ≡ next_of last used records }
-{
-    if no_next_id(last) {
-        return NewSegment::Refused(Refusal::NoNextSegmentId);
-    }
+    };
     if records <= used {
-        return NewSegment::Refused(Refusal::NoRoom);
+        return Err(Refusal::NoRoom);
     }
-    NewSegment::Record(segment_after(last))
+    Ok(segment)
 }
 
-pub fn new_segment(area_len: usize, directory: &[u8], used: usize) -> NewSegment
-    ensures { new_segment_as result ≡ new_segment_of area_len directory.now used }
+pub fn new_segment(area_len: usize, directory: &[u8], used: usize) -> Result<SegmentRecord, Refusal>
+    ensures { answer_of result ≡ new_segment_of area_len directory.now used }
 {
-    match directory::rule::test(area_len, directory, used) {
-        Tested::Refused(refusal) => NewSegment::Refused(refusal),
-        Tested::Sound => next(
-            last_used(area_len, directory, used),
-            used,
-            directory.len() / SegmentRecord::SIZE,
-        ),
-    }
+    directory::rule::test(area_len, directory, used)?;
+    let last = last_used(area_len, directory, used);
+    next(last, used, directory.len() / SegmentRecord::SIZE)
 }
 
 // Refusals 1 and 2 of an append: a used count of 0 is 2.
-pub fn append_test(area_len: usize, directory: &[u8], used: usize) -> Tested
-    ensures { tested_as result ≡ append_test_of area_len directory.now used }
+pub fn append_test(area_len: usize, directory: &[u8], used: usize) -> Result<(), Refusal>
+    ensures { answer_of result ≡ append_test_of area_len directory.now used }
 {
-    match directory::rule::test(area_len, directory, used) {
-        Tested::Refused(refusal) => Tested::Refused(refusal),
-        Tested::Sound => {
-            if used == 0 {
-                return Tested::Refused(Refusal::InvalidDirectory);
-            }
-            Tested::Sound
-        }
+    directory::rule::test(area_len, directory, used)?;
+    if used == 0 {
+        return Err(Refusal::InvalidDirectory);
     }
+    Ok(())
 }
 
 // An entry behind a segment. 13 and the payload's length are held against what is left of the area, one after the other.
-fn behind(segment: SegmentRecord, k: usize, rotated: bool, area_len: usize, len: usize) -> Plan
+fn behind(
+    segment: SegmentRecord,
+    k: usize,
+    rotated: bool,
+    area_len: usize,
+    len: usize,
+) -> Result<Write, Refusal>
     requires { end_of segment ≤ area_len }
-    ensures { planned_as result ≡ behind_of segment k rotated area_len len }
+    ensures { answer_of result ≡ behind_of segment k rotated area_len len }
 {
     let end = segment.start + segment.length;
     let left = area_len as u64 - end;
-    if left < HEADER {
-        return Plan::Refused(Refusal::NoRoom);
+    if left < HEADER || left - HEADER < len as u64 {
+        return Err(Refusal::NoRoom);
     }
-    if left - HEADER < len as u64 {
-        return Plan::Refused(Refusal::NoRoom);
-    }
-    Plan::Write(Write {
+    Ok(Write {
         at: end as usize,
         k,
         segment: SegmentRecord {
-            id: segment.id,
-            start: segment.start,
             length: segment.length + (HEADER + len as u64),
+            ..segment
         },
         rotated,
     })
@@ -145,30 +115,35 @@ fn behind(segment: SegmentRecord, k: usize, rotated: bool, area_len: usize, len:
 
 // "Append first rotates if the active length is at or above the bound": the length as it is. An entry that would pass the
 // bound still goes into the active segment.
-fn plan_tested(bound: u64, area_len: usize, directory: &[u8], used: usize, len: usize) -> Plan
+fn plan_tested(
+    bound: u64,
+    area_len: usize,
+    directory: &[u8],
+    used: usize,
+    len: usize,
+) -> Result<Write, Refusal>
     requires { (test_of area_len directory.now used ≡ sound) × (0 < used) }
-    ensures { planned_as result ≡ plan_of bound area_len directory.now used len }
+    ensures { answer_of result ≡ plan_of bound area_len directory.now used len }
 {
     let last = directory::record::record_at(directory, used - 1);
     if last.length < bound {
         return behind(last, used - 1, false, area_len, len);
     }
-    let after = Last::Segment {
-        id: last.id,
-        end: last.start + last.length,
-    };
-    match next(after, used, directory.len() / SegmentRecord::SIZE) {
-        NewSegment::Refused(refusal) => Plan::Refused(refusal),
-        NewSegment::Record(segment) => behind(segment, used, true, area_len, len),
-    }
+    let records = directory.len() / SegmentRecord::SIZE;
+    let segment = next(Some(after(last)), used, records)?;
+    behind(segment, used, true, area_len, len)
 }
 
 // 1 and 2 go before 4 and 5.
-pub fn plan_append(bound: u64, area_len: usize, directory: &[u8], used: usize, len: usize) -> Plan
-    ensures { planned_as result ≡ plan_append_of bound area_len directory.now used len }
+pub fn plan_append(
+    bound: u64,
+    area_len: usize,
+    directory: &[u8],
+    used: usize,
+    len: usize,
+) -> Result<Write, Refusal>
+    ensures { answer_of result ≡ plan_append_of bound area_len directory.now used len }
 {
-    match append_test(area_len, directory, used) {
-        Tested::Refused(refusal) => Plan::Refused(refusal),
-        Tested::Sound => plan_tested(bound, area_len, directory, used, len),
-    }
+    append_test(area_len, directory, used)?;
+    plan_tested(bound, area_len, directory, used, len)
 }

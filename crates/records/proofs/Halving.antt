@@ -1,6 +1,7 @@
 -- The laws of finding by halving: a turn at a time, and that it finds the place of a key among ascending records.
 -- Assumes nothing.
 use mathlib.Core.Path.{◌≡◌, refl, sym, ap, ◌∙◌}
+use mathlib.Core.Bool.{true, false}
 use mathlib.Core.List.{List, [], ◌∷◌, ◌++◌, append_assoc}
 use Prim.Native.Nat.{ℕ, zero, suc, ◌+◌, ◌-◌, ◌*◌, ◌/◌, ◌<◌, ◌≤◌}
 use native.Mathlib.Nat.{add-zero, zero-add, suc-add}
@@ -8,15 +9,32 @@ use native.Mathlib.Omega.{arith}
 use borrow.Author.Tests.{ne_eqb}
 use lib.ListN.{length, get_or, take, drop, length-append, length-drop}
 use lib.Seq.{split_at, length-take-le}
-use Rattle.fields.specs.declared.bytes.Ordering.{Ordering}
-use Rattle.fields.specs.declared.bytes.Ordering.TheVariants.{Less, Equal, Greater}
+use Rattle.std.specs.declared.cmp.Ordering.{Ordering}
+use Rattle.std.specs.declared.cmp.Ordering.TheVariants.{Less, Equal, Greater}
+use Rattle.std.specs.Ordering.{is_eq, is_lt}
 use Rattle.records.specs.Dense.{dense, All}
 use Rattle.records.specs.Sorted.{by_order, further, place_of, Ascends}
 use Rattle.records.specs.Halving.{halve, halved, found_in}
-use Rattle.records.specs.declared.Found.{Found}
-use Rattle.records.specs.declared.Found.TheVariants.{At, Gap}
+use Rattle.std.specs.declared.result.Result.{Result}
+use Rattle.std.specs.declared.result.Result.TheVariants.{Ok, Err}
 use Rattle.records.proofs.Dense.{all_at, record_back}
 use Rattle.records.proofs.Sorted.{IsOrder, case_o}
+
+-- what std's tests of an ordering say
+pub is_equal : (o : Ordering) → is_eq o ≡ true → o ≡ Equal
+is_equal Less e = cc
+is_equal Equal e = refl
+is_equal Greater e = cc
+
+pub is_less : (o : Ordering) → is_lt o ≡ true → o ≡ Less
+is_less Less e = refl
+is_less Equal e = cc
+is_less Greater e = cc
+
+pub is_greater : (o : Ordering) → is_eq o ≡ false → is_lt o ≡ false → o ≡ Greater
+is_greater Less e f = cc
+is_greater Equal e f = cc
+is_greater Greater e f = refl
 
 -- a range has no records, or some
 case_none : {A : Type 0} (len : ℕ) → (len ≡ 0 → A) → (0 < len → A) → A
@@ -24,25 +42,25 @@ case_none zero f g = f refl
 case_none (suc n) f g = g (omega arith)
 
 -- what is found lies in the range
-abbrev Within : (from len : ℕ) → Found → Type 0
-Within from len (At k) = (from ≤ k) × (k < from + len)
-Within from len (Gap k) = (from ≤ k) × (k ≤ from + len)
+abbrev Within : (from len : ℕ) → Result ℕ ℕ → Type 0
+Within from len (Ok k) = (from ≤ k) × (k < from + len)
+Within from len (Err k) = (from ≤ k) × (k ≤ from + len)
 
-wider : (from len i n : ℕ) → from ≤ i → i + n ≤ from + len → (f : Found) → Within i n f → Within from len f
-wider from len i n h k (At j) w = omega arith
-wider from len i n h k (Gap j) w = omega arith
+wider : (from len i n : ℕ) → from ≤ i → i + n ≤ from + len → (f : Result ℕ ℕ) → Within i n f → Within from len f
+wider from len i n h k (Ok j) w = omega arith
+wider from len i n h k (Err j) w = omega arith
 
 module _ (order : ℕ → Ordering) where
-  halve_over : (from len : ℕ) → halve order 0 from len ≡ Gap from
+  halve_over : (from len : ℕ) → halve order 0 from len ≡ Err from
   unfolding halve
   halve_over from len = refl
 
-  halve_out : (t from : ℕ) → halve order t from 0 ≡ Gap from
+  halve_out : (t from : ℕ) → halve order t from 0 ≡ Err from
   unfolding halve
   halve_out zero from = refl
   halve_out (suc t) from = refl
 
-  halve_in : (t from len : ℕ) → 0 < len → halve order (suc t) from len ≡ by_order (order (from + len / 2)) (halve order t (from + len / 2 + 1) (len - len / 2 - 1)) (At (from + len / 2)) (halve order t from (len / 2))
+  halve_in : (t from len : ℕ) → 0 < len → halve order (suc t) from len ≡ by_order (order (from + len / 2)) (halve order t (from + len / 2 + 1) (len - len / 2 - 1)) (Ok (from + len / 2)) (halve order t from (len / 2))
   unfolding halve
   halve_in t from len h = rw (ne_eqb len 0 (omega arith))
 
@@ -62,11 +80,11 @@ module _ (order : ℕ → Ordering) where
 
   -- ---- a turn of the search
 
-  pub halve_none : (from : ℕ) → halved order from 0 ≡ Gap from
+  pub halve_none : (from : ℕ) → halved order from 0 ≡ Err from
   unfolding halved
   halve_none from = halve_out 0 from
 
-  halved_in : (from len : ℕ) → 0 < len → halved order from len ≡ by_order (order (from + len / 2)) (halved order (from + len / 2 + 1) (len - len / 2 - 1)) (At (from + len / 2)) (halved order from (len / 2))
+  halved_in : (from len : ℕ) → 0 < len → halved order from len ≡ by_order (order (from + len / 2)) (halved order (from + len / 2 + 1) (len - len / 2 - 1)) (Ok (from + len / 2)) (halved order from (len / 2))
   unfolding halved
   halved_in from len h =
       let p = turns_enough (len - 1) (len - len / 2 - 1) (from + len / 2 + 1) (len - len / 2 - 1) (omega arith) (omega arith) in
@@ -77,7 +95,7 @@ module _ (order : ℕ → Ordering) where
   pub halve_less : (from len : ℕ) → 0 < len → order (from + len / 2) ≡ Less → halved order from len ≡ halved order (from + len / 2 + 1) (len - len / 2 - 1)
   halve_less from len h e = halved_in from len h ∙ rw e
 
-  pub halve_equal : (from len : ℕ) → 0 < len → order (from + len / 2) ≡ Equal → halved order from len ≡ At (from + len / 2)
+  pub halve_equal : (from len : ℕ) → 0 < len → order (from + len / 2) ≡ Equal → halved order from len ≡ Ok (from + len / 2)
   halve_equal from len h e = halved_in from len h ∙ rw e
 
   pub halve_greater : (from len : ℕ) → 0 < len → order (from + len / 2) ≡ Greater → halved order from len ≡ halved order from (len / 2)
@@ -98,32 +116,32 @@ module _ (order : ℕ → Ordering) where
       (λ q. rw q (omega arith))
       (λ q. rw q (wider from len from (len / 2) (omega arith) (omega arith) (halve order t from (len / 2)) (within t from (len / 2))))))
 
-  pub halve_within_at : (n k : ℕ) → found_in order n ≡ At k → k < n
+  pub halve_within_at : (n k : ℕ) → found_in order n ≡ Ok k → k < n
   unfolding found_in halved
-  halve_within_at n k e = let w : Within 0 n (At k) = rw e at (within n 0 n) in omega arith
+  halve_within_at n k e = let w : Within 0 n (Ok k) = rw e at (within n 0 n) in omega arith
 
-  pub halve_within_gap : (n k : ℕ) → found_in order n ≡ Gap k → k ≤ n
+  pub halve_within_gap : (n k : ℕ) → found_in order n ≡ Err k → k ≤ n
   unfolding found_in halved
-  halve_within_gap n k e = let w : Within 0 n (Gap k) = rw e at (within n 0 n) in omega arith
+  halve_within_gap n k e = let w : Within 0 n (Err k) = rw e at (within n 0 n) in omega arith
 
 -- ---- among ascending records it finds the place of the key
 
 -- so many records further on
-abbrev past : ℕ → Found → Found
-past n (At k) = At (n + k)
-past n (Gap k) = Gap (n + k)
+abbrev past : ℕ → Result ℕ ℕ → Result ℕ ℕ
+past n (Ok k) = Ok (n + k)
+past n (Err k) = Err (n + k)
 
-past_none : (f : Found) → past 0 f ≡ f
-past_none (At k) = rw zero-add
-past_none (Gap k) = rw zero-add
+past_none : (f : Result ℕ ℕ) → past 0 f ≡ f
+past_none (Ok k) = rw zero-add
+past_none (Err k) = rw zero-add
 
-past_one : (n : ℕ) (f : Found) → further (past n f) ≡ past (suc n) f
-past_one n (At k) = rw suc-add
-past_one n (Gap k) = rw suc-add
+past_one : (n : ℕ) (f : Result ℕ ℕ) → further (past n f) ≡ past (suc n) f
+past_one n (Ok k) = rw suc-add
+past_one n (Err k) = rw suc-add
 
-past_all : (m n : ℕ) (f : Found) → past (m + n + 1) f ≡ past m (past n (further f))
-past_all m n (At k) = ap At (omega arith)
-past_all m n (Gap k) = ap Gap (omega arith)
+past_all : (m n : ℕ) (f : Result ℕ ℕ) → past (m + n + 1) f ≡ past m (past n (further f))
+past_all m n (Ok k) = ap Ok (omega arith)
+past_all m n (Err k) = ap Err (omega arith)
 
 module _ {K R : Type 0} (compare : K → K → Ordering) (laws : IsOrder compare) (key : R → K) (k : K) where
   ascends_before : (before : List R) (r : R) (after : List R) → Ascends compare key (before ++ (r ∷ after)) → Ascends compare key before

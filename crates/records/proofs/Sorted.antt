@@ -11,13 +11,15 @@ use borrow.Author.Tests.{lt-ltb, le-ltb}
 use lib.Dec.{ltb}
 use lib.ListN.{length}
 use Rattle.fields.specs.Order.{compare_bytes}
-use Rattle.fields.specs.declared.bytes.Ordering.{Ordering}
-use Rattle.fields.specs.declared.bytes.Ordering.TheVariants.{Less, Equal, Greater}
+use Rattle.std.proofs.lemmas.Bool.Decides.{nat_tests}
+use Rattle.std.specs.Ordering.{nat_cmp, ordering_reverse}
+use Rattle.std.specs.declared.cmp.Ordering.{Ordering}
+use Rattle.std.specs.declared.cmp.Ordering.TheVariants.{Less, Equal, Greater}
 use Rattle.fields.proofs.Cases.{case_b, tests}
-use Rattle.fields.proofs.Ordered.{flipped, compare_same, compare_equal, compare_flip, compare_trans}
+use Rattle.fields.proofs.Ordered.{compare_same, compare_equal, compare_flip, compare_trans}
 use Rattle.records.specs.Sorted.{compare_numbers, further, place_of, record_of, put, remove, Before, Ascends}
-use Rattle.records.specs.declared.Found.{Found}
-use Rattle.records.specs.declared.Found.TheVariants.{At, Gap}
+use Rattle.std.specs.declared.result.Result.{Result}
+use Rattle.std.specs.declared.result.Result.TheVariants.{Ok, Err}
 use Rattle.records.specs.Dense.{All}
 
 -- ---- orders
@@ -32,13 +34,13 @@ module _ {ℓ} {A : Type ℓ} where
 pub record IsOrder {K : Type 0} (compare : K → K → Ordering) : Type 0 where
   pub same : (a : K) → compare a a ≡ Equal
   pub equal : (a b : K) → compare a b ≡ Equal → a ≡ b
-  pub flip : (a b : K) → compare b a ≡ flipped (compare a b)
+  pub flip : (a b : K) → compare b a ≡ ordering_reverse (compare a b)
   pub trans : (a b c : K) → compare a b ≡ Less → compare b c ≡ Less → compare a c ≡ Less
 
 module _ {K : Type 0} (compare : K → K → Ordering) (order : IsOrder compare) where
   greater_trans : (a b c : K) → compare a b ≡ Greater → compare b c ≡ Greater → compare a c ≡ Greater
   greater_trans a b c p q =
-      order.flip c a ∙ ap flipped (order.trans c b a (order.flip b c ∙ ap flipped q) (order.flip a b ∙ ap flipped p))
+      order.flip c a ∙ ap ordering_reverse (order.trans c b a (order.flip b c ∙ ap ordering_reverse q) (order.flip a b ∙ ap ordering_reverse p))
 
   -- two keys are apart
   case_apart : {A : Type 0} (j k : K) → (j ≡ k → ⊥) → (compare k j ≡ Less → A) → (compare k j ≡ Greater → A) → A
@@ -67,6 +69,11 @@ numbers_greater a b h = rw (le-ltb a b (omega arith), lt-ltb b a h)
 pub numbers_same : (a : ℕ) → compare_numbers a a ≡ Equal
 unfolding compare_numbers
 numbers_same a = rw (le-ltb a a (omega arith))
+
+-- std orders numbers by the same rule
+pub numbers_compared : (a b : ℕ) → nat_cmp a b ≡ compare_numbers a b
+unfolding compare_numbers
+numbers_compared a b = grind (arith, nat_tests)
 
 pub less_numbers : (a b : ℕ) → compare_numbers a b ≡ Less → a < b
 less_numbers a b e = case_n a b (λ h q. h) (λ h q. let z : ◌≡◌ {A = ℕ} 0 1 = cc in absurd (omega arith)) (λ h q. let z : ◌≡◌ {A = ℕ} 0 1 = cc in absurd (omega arith))
@@ -103,13 +110,13 @@ module _ {K R : Type 0} (compare : K → K → Ordering) (key : R → K) (k : K)
     pub inserted : (change : R → R) (new : R) → put compare key k change new rs ≡ before ++ (new ∷ after)
     pub removed : remove compare key k rs ≡ rs
 
-  abbrev Placed : List R → Found → Type 0
-  Placed rs (At i) = Standing rs i
-  Placed rs (Gap i) = Missing rs i
+  abbrev Placed : List R → Result ℕ ℕ → Type 0
+  Placed rs (Ok i) = Standing rs i
+  Placed rs (Err i) = Missing rs i
 
-  placed_less : (r : R) (rs : List R) → compare (key r) k ≡ Less → (f : Found) → Placed rs f → Placed (r ∷ rs) (further f)
+  placed_less : (r : R) (rs : List R) → compare (key r) k ≡ Less → (f : Result ℕ ℕ) → Placed rs f → Placed (r ∷ rs) (further f)
   unfolding put remove
-  placed_less r rs q (At i) p =
+  placed_less r rs q (Ok i) p =
       record {
         before = r ∷ p.before;
         found = p.found;
@@ -120,7 +127,7 @@ module _ {K R : Type 0} (compare : K → K → Ordering) (key : R → K) (k : K)
         changed = λ change new. rw (q, p.changed change new);
         removed = rw (q, p.removed);
       }
-  placed_less r rs q (Gap i) p =
+  placed_less r rs q (Err i) p =
       record {
         before = r ∷ p.before;
         after = p.after;
@@ -139,10 +146,10 @@ module _ {K R : Type 0} (compare : K → K → Ordering) (key : R → K) (k : K)
       (λ q. rw q (record { before = []; found = r; after = rs; whole = refl; place = refl; equal = q; changed = λ change new. rw q; removed = rw q }))
       (λ q. rw q (record { before = []; after = r ∷ rs; whole = refl; place = refl; inserted = λ change new. rw q; removed = rw q }))
 
-  pub place_at : (rs : List R) (i : ℕ) → place_of compare key k rs ≡ At i → Standing rs i
+  pub place_at : (rs : List R) (i : ℕ) → place_of compare key k rs ≡ Ok i → Standing rs i
   place_at rs i e = rw e at (placed rs)
 
-  pub place_gap : (rs : List R) (i : ℕ) → place_of compare key k rs ≡ Gap i → Missing rs i
+  pub place_gap : (rs : List R) (i : ℕ) → place_of compare key k rs ≡ Err i → Missing rs i
   place_gap rs i e = rw e at (placed rs)
 
 -- ---- a put
@@ -247,19 +254,19 @@ module _ {K R : Type 0} (compare : K → K → Ordering) (order : IsOrder compar
   record_equal : (k : K) (r : R) (rs : List R) → compare (key r) k ≡ Equal → Before compare key r rs → record_of compare key k rs ≡ none
   record_equal k r [] q b = record_none k
   record_equal k r (s ∷ rs) q b =
-      record_less k s rs (order.flip k (key s) ∙ ap flipped (rw (order.equal (key r) k q) at b))
+      record_less k s rs (order.flip k (key s) ∙ ap ordering_reverse (rw (order.equal (key r) k q) at b))
 
   record_greater : (k : K) (r : R) (rs : List R) → compare (key r) k ≡ Greater → Before compare key r rs → record_of compare key k rs ≡ none
   record_greater k r [] q b = record_none k
   record_greater k r (s ∷ rs) q b =
-      record_less k s rs (greater_trans compare order (key s) (key r) k (order.flip (key r) (key s) ∙ ap flipped b) q)
+      record_less k s rs (greater_trans compare order (key s) (key r) k (order.flip (key r) (key s) ∙ ap ordering_reverse b) q)
 
   -- ---- ascending records are determined by the record of each key
 
   same_first : (x y : R) (xs ys : List R) → ((k : K) → record_of compare key k (x ∷ xs) ≡ record_of compare key k (y ∷ ys)) → x ≡ y
   same_first x y xs ys h =
       case_o (compare (key x) (key y))
-      (λ q. cc (h (key x), record_first x xs, record_less (key x) y ys (order.flip (key x) (key y) ∙ ap flipped q)))
+      (λ q. cc (h (key x), record_first x xs, record_less (key x) y ys (order.flip (key x) (key y) ∙ ap ordering_reverse q)))
       (λ q. let e = order.equal (key x) (key y) q in cc (h (key x), record_first x xs, record_first y ys))
       (λ q. cc (h (key y), record_first y ys, record_less (key y) x xs q))
 

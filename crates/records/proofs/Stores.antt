@@ -1,13 +1,17 @@
 -- What a store makes of the parts of a list, and the turns of the loops that move bytes.
 -- Assumes nothing.
 use mathlib.Core.Path.{◌≡◌, refl, ap, ◌∙◌}
-use mathlib.Core.List.{List, [], ◌∷◌, ◌++◌, append_assoc}
-use Prim.Native.Nat.{ℕ, suc, ◌+◌, ◌-◌, ◌<◌, ◌≤◌}
+use mathlib.Core.List.{List, [], ◌∷◌, ◌++◌, append_assoc, append-nil}
+use Prim.Native.Nat.{ℕ, suc, ◌+◌, ◌-◌, ◌<◌, ◌≤◌, min}
 use native.Mathlib.Nat.{add-zero}
 use native.Mathlib.Omega.{arith}
-use lib.ListN.{length, take, drop, set, get_or, length-append, length-take, length-drop}
-use lib.Seq.{sets, sets-eq, set_comm, take_at, drop_at, drop-cons, take-add, drop-drop}
-use Rattle.fields.proofs.Stores.{take-sets, drop-sets, behind_sets, sets_join}
+use lib.ListN.{drop_of_length-le, length, take, drop, set, get_or, length-append, length-take, length-drop}
+use borrow.Rule.Slice.PartMut.{put_mid}
+use lib.Dec.{leb}
+use lib.Seq.{take_all, sets, sets-eq, set_comm, take_at, drop_at, drop-cons, take-add, drop-drop}
+use Rattle.std.proofs.lemmas.List.{take-append-drop}
+use Rattle.fields.proofs.Cases.{case_b, tests}
+use Rattle.fields.proofs.Stores.{take-sets, drop-sets, behind_sets, sets_join, sets_out}
 
 -- a part is stored over by another of its length
 pub sets_part : (pre old post new : List ℕ) (i : ℕ) → length pre ≡ i → length new ≡ length old → sets (pre ++ (old ++ post)) i new ≡ pre ++ (new ++ post)
@@ -73,3 +77,21 @@ down_turn s at n by m h l =
     let f : at + by + (m + 1) ≡ at + by + m + 1 = omega arith in
     rw (behind_sets (at + by + (m + 1)) s byte (at + m) (omega arith), e, take-add 1 (n - (m + 1)) (drop (at + by + m) s), drop-drop, w, ← f)
     (sets_join s byte rest (at + m) (at + (m + 1)) (omega arith))
+
+-- a store into what stands behind a place, or behind the end if the place is past it
+module _ (s vs : List ℕ) (at i place : ℕ) (e : place ≡ min at (length s)) where
+  into_rest : take place s ++ sets (drop place s) i vs ≡ sets s (at + i) vs
+  into_rest =
+      case_b (leb at (length s))
+      (λ q.
+      let f : place ≡ at = omega (arith, tests) in
+      rw (f, ← drop-sets at s vs i, ← take-sets at s vs (at + i) (omega arith)) (take-append-drop at (sets s (at + i) vs)))
+      (λ q.
+      let f : length s ≤ place = omega (arith, tests) in
+      let g : length s ≤ at + i = omega (arith, tests) in
+      rw (drop_of_length-le s f, sets_out [] vs i (omega arith), take_all place s f, append-nil, sets_out s vs (at + i) g))
+
+  pub stored_behind : put_mid place (length s - place) s (sets (take (length s - place) (drop place s)) i vs) ≡ sets s (at + i) vs
+  stored_behind =
+      let w : length (drop place s) ≤ length s - place = rw length-drop (omega arith) in
+      rw (take_all (length s - place) (drop place s) w, drop_of_length-le (drop place s) w, append-nil) into_rest

@@ -7,7 +7,7 @@ use Rattle.records.specs.Dense.{bytes_of, dense, records_of}
 use Rattle.records.specs.Sorted.{itself, compare_numbers, place_of, record_of, put, remove}
 use Rattle.records.specs.Halving.{halve, halved, found_in}
 use Rattle.records.specs.Moves.{moved_up, moved_down}
-use Rattle.records.specs.declared.Found.TheVariants.{At, Gap}
+use Rattle.std.specs.declared.result.Result.TheVariants.{Ok, Err}
 
 two_of_three : dense (le_bytes 2) 6 (513 ∷ 3 ∷ []) ≡ 1 ∷ 2 ∷ 3 ∷ 0 ∷ 0 ∷ 0 ∷ []
 unfolding dense bytes_of le_bytes
@@ -22,15 +22,15 @@ read_back = refl
 abbrev tens : List ℕ
 tens = 10 ∷ 20 ∷ 30 ∷ []
 
-there : place_of compare_numbers itself 20 tens ≡ At 1
+there : place_of compare_numbers itself 20 tens ≡ Ok 1
 unfolding place_of compare_numbers
 there = refl
 
-between : place_of compare_numbers itself 21 tens ≡ Gap 2
+between : place_of compare_numbers itself 21 tens ≡ Err 2
 unfolding place_of compare_numbers
 between = refl
 
-behind : place_of compare_numbers itself 31 tens ≡ Gap 3
+behind : place_of compare_numbers itself 31 tens ≡ Err 3
 unfolding place_of compare_numbers
 behind = refl
 
@@ -60,23 +60,23 @@ none_removed = refl
 
 -- ---- halved: among as many records as the transactions may have, record i of key 10 * i
 
-found_first : found_in (λ i. compare_numbers (10 * i) 0) 65_536 ≡ At 0
+found_first : found_in (λ i. compare_numbers (10 * i) 0) 65_536 ≡ Ok 0
 unfolding found_in halved halve compare_numbers
 found_first = refl
 
-found_last : found_in (λ i. compare_numbers (10 * i) 655_350) 65_536 ≡ At 65_535
+found_last : found_in (λ i. compare_numbers (10 * i) 655_350) 65_536 ≡ Ok 65_535
 unfolding found_in halved halve compare_numbers
 found_last = refl
 
-missing : found_in (λ i. compare_numbers (10 * i) 71) 65_536 ≡ Gap 8
+missing : found_in (λ i. compare_numbers (10 * i) 71) 65_536 ≡ Err 8
 unfolding found_in halved halve compare_numbers
 missing = refl
 
-missing_behind : found_in (λ i. compare_numbers (10 * i) 655_351) 65_536 ≡ Gap 65_536
+missing_behind : found_in (λ i. compare_numbers (10 * i) 655_351) 65_536 ≡ Err 65_536
 unfolding found_in halved halve compare_numbers
 missing_behind = refl
 
-none_at_all : found_in (λ i. compare_numbers (10 * i) 7) 0 ≡ Gap 0
+none_at_all : found_in (λ i. compare_numbers (10 * i) 7) 0 ≡ Err 0
 unfolding found_in halved halve
 none_at_all = refl
 

@@ -2,10 +2,10 @@
 -- Assumes nothing.
 use Rattle.std.specs.Prelude.{◌≡◌, cond, List, [], ◌∷◌, ℕ, suc, ltb}
 use Rattle.std.proofs.Math.Option.{Option, none, some}
-use Rattle.fields.specs.declared.bytes.Ordering.{Ordering}
-use Rattle.fields.specs.declared.bytes.Ordering.TheVariants.{Less, Equal, Greater}
-use Rattle.records.specs.declared.Found.{Found}
-use Rattle.records.specs.declared.Found.TheVariants.{At, Gap}
+use Rattle.std.specs.declared.cmp.Ordering.{Ordering}
+use Rattle.std.specs.declared.cmp.Ordering.TheVariants.{Less, Equal, Greater}
+use Rattle.std.specs.declared.result.Result.{Result}
+use Rattle.std.specs.declared.result.Result.TheVariants.{Ok, Err}
 
 unfoldable pub compare_numbers : ℕ → ℕ → Ordering
 compare_numbers a b = cond (ltb a b) Less (cond (ltb b a) Greater Equal)
@@ -20,15 +20,15 @@ abbrev pub itself : {A : Type 0} → A → A
 itself a = a
 
 -- one record further on
-abbrev pub further : Found → Found
-further (At k) = At (suc k)
-further (Gap k) = Gap (suc k)
+abbrev pub further : Result ℕ ℕ → Result ℕ ℕ
+further (Ok k) = Ok (suc k)
+further (Err k) = Err (suc k)
 
 module _ {K R : Type 0} (compare : K → K → Ordering) (key : R → K) where
   -- the place of the key's record, or of the gap where it belongs
-  unfoldable pub place_of : K → List R → Found
-  place_of k [] = Gap 0
-  place_of k (r ∷ rs) = by_order (compare (key r) k) (further (place_of k rs)) (At 0) (Gap 0)
+  unfoldable pub place_of : K → List R → Result ℕ ℕ
+  place_of k [] = Err 0
+  place_of k (r ∷ rs) = by_order (compare (key r) k) (further (place_of k rs)) (Ok 0) (Err 0)
 
   -- the key's record
   unfoldable pub record_of : K → List R → Option R

@@ -8,13 +8,7 @@ ghost use Rattle.records.specs.Moves.{moved_up, moved_down};
 fn lie_in(room: usize, at: usize, len: usize, by: usize) -> bool
     ensures { result ≡ leb (at + by + len) room }
 {
-    if room < at {
-        return false;
-    }
-    if room - at < by {
-        return false;
-    }
-    len <= room - at - by
+    at <= room && by <= room - at && len <= room - at - by
 }
 
 // The last byte first: a byte may be moved over those behind it, which stand in their places by then. The compiler makes a
@@ -23,10 +17,8 @@ fn move_bytes_up(s: &mut [u8], at: usize, len: usize, by: usize)
     requires { at + by + len ≤ length s.old }
     ensures { s.new ≡ sets s.old (at + by) (take len (drop at s.old)) }
 {
-    let mut left = len;
-    while 0 < left {
-        left -= 1;
-        s[at + by + left] = s[at + left];
+    for i in (0..len).rev() {
+        s[at + by + i] = s[at + i];
     }
 }
 
@@ -44,10 +36,8 @@ fn move_bytes_down(s: &mut [u8], at: usize, len: usize, by: usize)
     requires { at + by + len ≤ length s.old }
     ensures { s.new ≡ sets s.old at (take len (drop (at + by) s.old)) }
 {
-    let mut moved = 0;
-    while moved < len {
-        s[at + moved] = s[at + by + moved];
-        moved += 1;
+    for i in 0..len {
+        s[at + i] = s[at + by + i];
     }
 }
 

@@ -9,11 +9,14 @@ use lib.Dec.{leb}
 use lib.ListN.{length}
 use Rattle.fields.specs.Le.{Bytes}
 use Rattle.fields.proofs.Cases.{case_b}
-use Rattle.refusal.specs.Answer.{accepted, sound}
+use Rattle.std.specs.declared.result.Result.{Result}
+use Rattle.std.specs.declared.result.Result.TheVariants.{Ok}
+use Rattle.refusal.specs.declared.Refusal.{Refusal}
+use Rattle.refusal.specs.Answer.{accepted, sound, answer_of}
 use Rattle.refusal.proofs.Answers.{never_both, same_values, by_cases}
 use Rattle.directory.specs.Record.{records_of}
 use Rattle.directory.specs.Rule.{test_of}
-use Rattle.directory.specs.declared.rule.Last.TheVariants.{NoSegment}
+use Rattle.std.specs.declared.option.Option.TheVariants.{None}
 use Rattle.directory.proofs.Records.{length_records}
 use Rattle.directory.proofs.Sound.{sound_says}
 use Rattle.records.specs.Dense as Dense
@@ -24,10 +27,8 @@ use Rattle.lists.proofs.Books.{transactions_back}
 use Rattle.lists.specs.Entries.{EntryFits}
 use Rattle.recovery.specs.Log.{LogRead, read_log}
 use Rattle.recovery.specs.Recover.{Recovering, recovering, listing, read_into, stats_of, recovered_of, lists_test_of, recover_of}
-use Rattle.recovery.specs.Checkpoint.{checkpointed_as, checkpoint_at, advance_of, target_after, checkpointing, checkpoint_by}
+use Rattle.recovery.specs.Checkpoint.{checkpoint_at, advance_of, target_after, checkpointing, checkpoint_by}
 use Rattle.recovery.specs.declared.Recovered.{Recovered}
-use Rattle.recovery.specs.declared.Recovery.TheVariants as Recovers
-use Rattle.recovery.specs.declared.checkpoints.Checkpointed.{Checkpointed}
 use Rattle.recovery.proofs.Concludes.{log_fits, log_length, lists_sound}
 
 -- the log of a directory that passes the test: its entries fit their records, and can be counted
@@ -42,7 +43,7 @@ sound_fits area directory used b t =
     let s = sound_says (length area) directory used t in
     let rs = records_of used directory in
     let n : length (read_log area rs).entries < 2 ^ 56 = omega (arith, log_length area 1_073_741_824 rs s.area, length_records used directory, s.used, s.directory) in
-    record { entries = log_fits area NoSegment rs b s.area s.rule; count = omega (arith, n); few = n }
+    record { entries = log_fits area None rs b s.area s.rule; count = omega (arith, n); few = n }
 
 -- an accepted recovery
 pub record Accepted (area directory : List ℕ) (used : ℕ) (entries transactions : List ℕ) (values : Recovered) : Type 0 where
@@ -85,14 +86,14 @@ recover_accepted area directory used entries transactions values e =
 -- ---- checkpoint
 
 -- the highest committed number, read off the transactions that recovery left
-committed_is : (area directory : List ℕ) (used : ℕ) (entries transactions es ts : List ℕ) (v : Recovered) → Bytes area → recovering (Recovers.Done v) es ts ≡ recover_of area directory used entries transactions → highest_committed (Dense.records_of 24 transaction_at v.stats.total_transactions ts) ≡ highest_committed (transactions_of (read_log area (records_of used directory)).entries)
+committed_is : (area directory : List ℕ) (used : ℕ) (entries transactions es ts : List ℕ) (v : Recovered) → Bytes area → recovering (Ok v) es ts ≡ recover_of area directory used entries transactions → highest_committed (Dense.records_of 24 transaction_at v.stats.total_transactions ts) ≡ highest_committed (transactions_of (read_log area (records_of used directory)).entries)
 unfolding recovered_of stats_of
 committed_is area directory used entries transactions es ts v b e =
     let a = recover_accepted area directory used entries transactions v (ap (λ (r : Recovering). r.answer) (sym e)) in
     let f = sound_fits area directory used b a.sounds in
     rw (a.values_are, ap (λ (r : Recovering). r.transactions) (e ∙ a.lists_are), transactions_back (length transactions) (read_log area (records_of used directory)).entries f.entries f.count)
 
-pub checkpoints : (area directory : List ℕ) (used : ℕ) (entries transactions stored target es ts : List ℕ) (v : Recovered) (highest was : ℕ) (r : Checkpointed) (target' : List ℕ) → Bytes area → recovering (Recovers.Done v) es ts ≡ recover_of area directory used entries transactions → highest ≡ highest_committed (Dense.records_of 24 transaction_at v.stats.total_transactions ts) → was ≡ checkpoint_at stored → checkpointed_as r ≡ advance_of highest was → target' ≡ target_after (advance_of highest was) target → checkpointing r es ts target' ≡ checkpoint_by (recover_of area directory used entries transactions) (read_log area (records_of used directory)) stored target
+pub checkpoints : (area directory : List ℕ) (used : ℕ) (entries transactions stored target es ts : List ℕ) (v : Recovered) (highest was : ℕ) (r : Result ℕ Refusal) (target' : List ℕ) → Bytes area → recovering (Ok v) es ts ≡ recover_of area directory used entries transactions → highest ≡ highest_committed (Dense.records_of 24 transaction_at v.stats.total_transactions ts) → was ≡ checkpoint_at stored → answer_of r ≡ advance_of highest was → target' ≡ target_after (advance_of highest was) target → checkpointing r es ts target' ≡ checkpoint_by (recover_of area directory used entries transactions) (read_log area (records_of used directory)) stored target
 checkpoints area directory used entries transactions stored target es ts v highest was r target' b e h w a t =
     let x = checkpoint_at stored in
     let y : highest ≡ highest_committed (transactions_of (read_log area (records_of used directory)).entries) = h ∙ committed_is area directory used entries transactions es ts v b e in

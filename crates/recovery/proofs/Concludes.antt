@@ -16,8 +16,9 @@ use Rattle.directory.specs.Image.{segment_bytes}
 use Rattle.directory.specs.Record.{records_of}
 use Rattle.directory.specs.Rule.{rule_from, test_of, after_record}
 use Rattle.directory.specs.declared.record.SegmentRecord.{SegmentRecord}
+use Rattle.std.specs.declared.option.Option.{Option}
 use Rattle.directory.specs.declared.rule.Last.{Last}
-use Rattle.directory.specs.declared.rule.Last.TheVariants.{NoSegment}
+use Rattle.std.specs.declared.option.Option.TheVariants.{None}
 use Rattle.refusal.specs.Answer.{refused, sound}
 use Rattle.refusal.proofs.Answers.{never_both}
 use Rattle.directory.specs.Lent.{fits_of}
@@ -72,7 +73,7 @@ length-listed : (base : ℕ) (gs : List Good) → length (listed_from base gs) �
 length-listed base [] = refl
 length-listed base (g ∷ gs) = ap suc (length-listed base gs)
 
-pub log_fits : (area : List ℕ) (last : Last) (rs : List SegmentRecord) → Bytes area → length area ≤ 1_073_741_824 → rule_from (length area) last rs ≡ true → All EntryFits (read_log area rs).entries
+pub log_fits : (area : List ℕ) (last : Option Last) (rs : List SegmentRecord) → Bytes area → length area ≤ 1_073_741_824 → rule_from (length area) last rs ≡ true → All EntryFits (read_log area rs).entries
 unfolding read_log read_segment
 log_fits area last [] b h e = tt
 log_fits area last (r ∷ rs) b h e =
@@ -148,7 +149,7 @@ recovers area directory used E T es ts es₀ ts₀ p b t m n e =
     let s = sound_says (length area) directory used t in
     let rs = records_of used directory in
     let l : length (read_log area rs).entries < 2 ^ 64 = omega (arith, log_length area 1_073_741_824 rs s.area, length_records used directory, s.used, s.directory) in
-    conclude E T (read_log area rs) p es ts (log_fits area NoSegment rs b s.area s.rule) l
+    conclude E T (read_log area rs) p es ts (log_fits area None rs b s.area s.rule) l
     (rw (m, n) at e ∙ reach_log_lem (empty_start E T) area rs)
 
 pub lists_sound : (area : ℕ) (directory : List ℕ) (used E T : ℕ) → lists_test_of area directory used E T ≡ sound → test_of area directory used ≡ sound

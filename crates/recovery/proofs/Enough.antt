@@ -10,7 +10,7 @@ use Rattle.refusal.specs.Answer.{sound}
 use Rattle.directory.specs.Record.{record_at, record_bytes, records_of}
 use Rattle.directory.specs.Rule.{rule_from, test_of}
 use Rattle.directory.specs.declared.lent.Lent.TheVariants as Lends
-use Rattle.directory.specs.declared.rule.Last.TheVariants.{NoSegment}
+use Rattle.std.specs.declared.option.Option.TheVariants.{None}
 use Rattle.directory.proofs.Records.{length_record, record_back}
 use Rattle.directory.proofs.Rules.{follows_so}
 use Rattle.directory.proofs.Sound.{fits_so, sound_so}
@@ -39,7 +39,7 @@ only_sound image h =
       directory = omega arith;
       whole = m;
       used = omega arith;
-      rule = rw (only_record image h, follows_so (length image) NoSegment r (record { id = refl; start = omega arith; end = omega arith }));
+      rule = rw (only_record image h, follows_so (length image) None r (record { id = refl; start = omega arith; end = omega arith }));
     })
 
 -- 33 * 1,985 is 65,505, and one entry more has no room in 65,536 bytes

@@ -3,23 +3,18 @@
 use Rattle.std.specs.Prelude.{ℕ, cond, List, eqb, leb, ltb, length}
 use Rattle.std.proofs.lemmas.List.Edits.{sets}
 use Rattle.fields.specs.Le.{le_bytes, num_at}
-use Rattle.refusal.specs.Number.{number_of}
-use Rattle.refusal.specs.Answer.{Answer, refused, accepted, by_answer, and_then}
+use Rattle.std.specs.declared.result.Result.{Result}
+use Rattle.refusal.specs.declared.Refusal.{Refusal}
+use Rattle.refusal.specs.Answer.{Answer, refused, accepted, by_answer, and_then, answer_of}
 use Rattle.directory.specs.Record.{records_of}
 use Rattle.lists.specs.Transactions.{transactions_of}
 use Rattle.lists.specs.Tally.{highest_committed}
 use Rattle.recovery.specs.Log.{LogRead, read_log}
 use Rattle.recovery.specs.Recover.{recover_of, Recovering}
-use Rattle.recovery.specs.declared.checkpoints.Checkpointed.{Checkpointed}
-use Rattle.recovery.specs.declared.checkpoints.Checkpointed.TheVariants as Checkpoints
 
 -- "A checkpoint image not exactly 8 bytes reads as 0."
 unfoldable pub checkpoint_at : List ℕ → ℕ
 checkpoint_at image = cond (eqb (length image) 8) (num_at 0 8 image) 0
-
-abbrev pub checkpointed_as : Checkpointed → Answer ℕ
-checkpointed_as (Checkpoints.Refused refusal) = refused (number_of refusal)
-checkpointed_as (Checkpoints.At number) = accepted number
 
 pub record Checkpointing : Type 0 where
   pub answer : Answer ℕ
@@ -28,9 +23,9 @@ pub record Checkpointing : Type 0 where
   pub target : List ℕ
 
 -- what a call gave back, with the buffers that it left
-abbrev pub checkpointing : Checkpointed → List ℕ → List ℕ → List ℕ → Checkpointing
+abbrev pub checkpointing : Result ℕ Refusal → List ℕ → List ℕ → List ℕ → Checkpointing
 checkpointing r entries transactions target =
-    record { answer = checkpointed_as r; entries = entries; transactions = transactions; target = target }
+    record { answer = answer_of r; entries = entries; transactions = transactions; target = target }
 
 -- "the highest committed number if above the stored one"; 10: "no committed number exceeds the stored one"
 unfoldable pub advance_of : (highest stored : ℕ) → Answer ℕ

@@ -15,7 +15,7 @@ use Rattle.records.specs.Dense.{records_of}
 use Rattle.recovery.specs.Log.{listed_from}
 use Rattle.recovery.specs.Recover.{next_of, stats_of, Recovering, recovering, refused_empty}
 use Rattle.recovery.specs.declared.Recovered.{Recovered}
-use Rattle.recovery.specs.declared.Recovery.TheVariants as Recovers
+use Rattle.std.specs.declared.result.Result.TheVariants.{Ok}
 use Rattle.recovery.specs.declared.read.Progress.{Progress}
 
 pub record Reached : Type 0 where
@@ -77,7 +77,7 @@ told_by transactions p =
 
 -- 6 and 7 empty both lists
 abbrev pub concluded_by : Full → (entries transactions : List ℕ) → Progress → Recovering
-concluded_by Room entries transactions p = recovering (Recovers.Done (told_by transactions p)) entries transactions
+concluded_by Room entries transactions p = recovering (Ok (told_by transactions p)) entries transactions
 concluded_by Entries entries transactions p = refused_empty 6 (length entries) (length transactions)
 concluded_by Transactions entries transactions p = refused_empty 7 (length entries) (length transactions)
 

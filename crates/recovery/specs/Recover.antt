@@ -1,8 +1,9 @@
 -- Document 01, "Recovery": what recovery answers, and what the two lists then hold.
 -- Assumes nothing.
 use Rattle.std.specs.Prelude.{ℕ, ◌+◌, ◌-◌, ◌/◌, ◌^◌, cond, ◌&&◌, List, eqb, leb, length, replicate}
-use Rattle.refusal.specs.Number.{number_of}
-use Rattle.refusal.specs.Answer.{Answer, refused, accepted, by_answer}
+use Rattle.std.specs.declared.result.Result.{Result}
+use Rattle.refusal.specs.declared.Refusal.{Refusal}
+use Rattle.refusal.specs.Answer.{Answer, refused, accepted, by_answer, answer_of}
 use Rattle.records.specs.Dense.{dense}
 use Rattle.directory.specs.Lent.{fits_of}
 use Rattle.directory.specs.Record.{records_of}
@@ -17,8 +18,6 @@ use Rattle.recovery.specs.declared.Next.{Next}
 use Rattle.recovery.specs.declared.Next.TheVariants.{Unchanged, Number, Exhausted}
 use Rattle.recovery.specs.declared.RecoveryStats.{RecoveryStats}
 use Rattle.recovery.specs.declared.Recovered.{Recovered}
-use Rattle.recovery.specs.declared.Recovery.{Recovery}
-use Rattle.recovery.specs.declared.Recovery.TheVariants as Recovers
 
 -- "The next number is unchanged if the highest is 0, the highest number plus one otherwise, and "exhausted" at 2^64 - 1."
 unfoldable pub next_of : (highest : ℕ) → Next
@@ -47,18 +46,14 @@ recovered_of log =
       next = next_of (highest_in log.entries);
     }
 
-abbrev pub recovery_as : Recovery → Answer Recovered
-recovery_as (Recovers.Refused refusal) = refused (number_of refusal)
-recovery_as (Recovers.Done values) = accepted values
-
 pub record Recovering : Type 0 where
   pub answer : Answer Recovered
   pub entries : List ℕ
   pub transactions : List ℕ
 
 -- what a call gave back, with the lists that it left
-abbrev pub recovering : Recovery → List ℕ → List ℕ → Recovering
-recovering r entries transactions = record { answer = recovery_as r; entries = entries; transactions = transactions }
+abbrev pub recovering : Result Recovered Refusal → List ℕ → List ℕ → Recovering
+recovering r entries transactions = record { answer = answer_of r; entries = entries; transactions = transactions }
 
 -- "The entry list holds every good entry, markers too, in reading order. Both, and the entry list, are dense from the front."
 abbrev pub listing : LogRead → (entries transactions : ℕ) → Recovering

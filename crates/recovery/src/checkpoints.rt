@@ -2,17 +2,10 @@
 ghost use Rattle.std.specs.Prelude.{◌≡◌};
 ghost use Rattle.recovery.specs.Checkpoint.{checkpoint_at, checkpointing, checkpoint_of};
 
-use super::Recovery;
 use refusal::Refusal;
 
 // Of a checkpoint's image.
 const SIZE: usize = 8;
-
-#[derive(Clone, Copy)]
-pub enum Checkpointed {
-    Refused(Refusal),
-    At(u64),
-}
 
 pub fn read_checkpoint(image: &[u8]) -> u64
     ensures { result ≡ checkpoint_at image.now }
@@ -32,22 +25,18 @@ pub fn checkpoint(
     transactions: &mut [u8],
     stored: &[u8],
     target: &mut [u8],
-) -> Checkpointed
+) -> Result<u64, Refusal>
     ensures { checkpointing result entries.new transactions.new target.new ≡ checkpoint_of area.now directory.now used entries.old transactions.old stored.now target.old }
 {
     if target.len() < SIZE {
-        return Checkpointed::Refused(Refusal::InvalidBuffer);
+        return Err(Refusal::InvalidBuffer);
     }
-    match crate::recover(area, directory, used, entries, transactions) {
-        Recovery::Refused(refusal) => Checkpointed::Refused(refusal),
-        Recovery::Done(recovered) => {
-            let stats = recovered.stats;
-            let highest = lists::tally::highest_committed(transactions, stats.total_transactions);
-            if highest <= read_checkpoint(stored) {
-                return Checkpointed::Refused(Refusal::NoNewCheckpoints);
-            }
-            fields::put_u64(target, 0, highest);
-            Checkpointed::At(highest)
-        }
+    let recovered = crate::recover(area, directory, used, entries, transactions)?;
+    let stats = recovered.stats;
+    let highest = lists::tally::highest_committed(transactions, stats.total_transactions);
+    if highest <= read_checkpoint(stored) {
+        return Err(Refusal::NoNewCheckpoints);
     }
+    fields::put_u64(target, 0, highest);
+    Ok(highest)
 }

@@ -3,17 +3,16 @@
 
 ghost use Rattle.std.specs.Prelude.{◌≡◌, length};
 ghost use Rattle.refusal.specs.Number.{number_of};
-ghost use Rattle.refusal.specs.Answer.{sound};
+ghost use Rattle.refusal.specs.Answer.{answer_of, sound};
 ghost use Rattle.records.specs.Dense as Dense;
 ghost use Rattle.lists.specs.Transactions.{transaction_at};
 ghost use Rattle.directory.specs.Record.{records_of};
-ghost use Rattle.directory.specs.Rule.{tested_as, test_of};
+ghost use Rattle.directory.specs.Rule.{test_of};
 ghost use Rattle.recovery.specs.Log.{read_log};
 ghost use Rattle.recovery.specs.Recover.{next_of, stats_of, recovering, refused_empty, read_into, lists_test_of, recover_of};
 ghost use Rattle.recovery.specs.Reach.{told_by, concluded_of};
 
 use directory::lent::Lent;
-use directory::rule::Tested;
 use lists::admit::Full;
 use read::Progress;
 use refusal::Refusal;
@@ -21,7 +20,7 @@ use refusal::Refusal;
 mod checkpoints;
 mod read;
 
-pub use checkpoints::{Checkpointed, checkpoint, read_checkpoint};
+pub use checkpoints::{checkpoint, read_checkpoint};
 
 // What the controller's transaction counter becomes.
 #[derive(Clone, Copy)]
@@ -49,22 +48,14 @@ pub struct Recovered {
     pub next: Next,
 }
 
-#[derive(Clone, Copy)]
-pub enum Recovery {
-    Refused(Refusal),
-    Done(Recovered),
-}
-
 fn next_number(highest: u64) -> Next
     ensures { result ≡ next_of highest }
 {
-    if highest == 0 {
-        return Next::Unchanged;
+    match highest {
+        0 => Next::Unchanged,
+        u64::MAX => Next::Exhausted,
+        _ => Next::Number(highest + 1),
     }
-    if highest == 0xffff_ffff_ffff_ffff {
-        return Next::Exhausted;
-    }
-    Next::Number(highest + 1)
 }
 
 fn stats(
@@ -103,21 +94,29 @@ fn results(transactions: &[u8], progress: Progress) -> Recovered
 }
 
 // 6 and 7 leave both lists zero throughout.
-fn refused_empty(entries: &mut [u8], transactions: &mut [u8], refusal: Refusal) -> Recovery
+fn refused_empty(
+    entries: &mut [u8],
+    transactions: &mut [u8],
+    refusal: Refusal,
+) -> Result<Recovered, Refusal>
     ensures { recovering result entries.new transactions.new ≡ refused_empty (number_of refusal) (length entries.old) (length transactions.old) }
 {
     fields::bytes::clear(entries);
     fields::bytes::clear(transactions);
-    Recovery::Refused(refusal)
+    Err(refusal)
 }
 
-fn concluded(entries: &mut [u8], transactions: &mut [u8], progress: Progress) -> Recovery
+fn concluded(
+    entries: &mut [u8],
+    transactions: &mut [u8],
+    progress: Progress,
+) -> Result<Recovered, Refusal>
     ensures { recovering result entries.new transactions.new ≡ concluded_of entries.old transactions.old progress }
 {
     let lists = progress.lists;
     let full = lists.full;
     match full {
-        Full::Room => Recovery::Done(results(transactions, progress)),
+        Full::Room => Ok(results(transactions, progress)),
         Full::Entries => refused_empty(entries, transactions, Refusal::EntryListFull),
         Full::Transactions => refused_empty(entries, transactions, Refusal::TransactionsFull),
     }
@@ -130,7 +129,7 @@ fn recover_tested(
     used: usize,
     entries: &mut [u8],
     transactions: &mut [u8],
-) -> Recovery
+) -> Result<Recovered, Refusal>
     requires { test_of (length area.now) directory.now used ≡ sound }
     ensures { recovering result entries.new transactions.new ≡ read_into (read_log area.now (records_of used directory.now)) (length entries.old) (length transactions.old) }
 {
@@ -147,14 +146,11 @@ fn lists_test(
     used: usize,
     entries_len: usize,
     transactions_len: usize,
-) -> Tested
-    ensures { tested_as result ≡ lists_test_of area_len directory.now used entries_len transactions_len }
+) -> Result<(), Refusal>
+    ensures { answer_of result ≡ lists_test_of area_len directory.now used entries_len transactions_len }
 {
-    if !Lent::EntryList.fits(entries_len) {
-        return Tested::Refused(Refusal::InvalidBuffer);
-    }
-    if !Lent::Transactions.fits(transactions_len) {
-        return Tested::Refused(Refusal::InvalidBuffer);
+    if !Lent::EntryList.fits(entries_len) || !Lent::Transactions.fits(transactions_len) {
+        return Err(Refusal::InvalidBuffer);
     }
     directory::rule::test(area_len, directory, used)
 }
@@ -165,17 +161,15 @@ pub fn recover(
     used: usize,
     entries: &mut [u8],
     transactions: &mut [u8],
-) -> Recovery
+) -> Result<Recovered, Refusal>
     ensures { recovering result entries.new transactions.new ≡ recover_of area.now directory.now used entries.old transactions.old }
 {
-    match lists_test(
+    lists_test(
         area.len(),
         directory,
         used,
         entries.len(),
         transactions.len(),
-    ) {
-        Tested::Refused(refusal) => Recovery::Refused(refusal),
-        Tested::Sound => recover_tested(area, directory, used, entries, transactions),
-    }
+    )?;
+    recover_tested(area, directory, used, entries, transactions)
 }

@@ -97,14 +97,12 @@ pub(crate) fn read_log(
         partial_writes: 0,
         checksum_failures: 0,
     };
-    let mut k = 0;
-    while k < used {
+    for k in 0..used {
         let segment = directory::record::record_at(directory, k);
         let start = segment.start as usize;
         let end = start + segment.length as usize;
         let base = segment.start;
         progress = read_segment_entries(&area[start..end], base, entries, transactions, progress);
-        k += 1;
     }
     progress
 }

@@ -1,9 +1,13 @@
--- What is accepted after another answer: that one was accepted too.
+-- Laws of answers: what is accepted after another answer was accepted, and what `?` hands on.
 -- Assumes nothing.
 use mathlib.Core.Path.{◌≡◌, refl, ap}
 use Prim.Native.Nat.{ℕ}
 use native.Mathlib.Omega.{arith}
+use Rattle.std.specs.Prelude.{IsErrAnd}
+use Rattle.std.specs.declared.result.Result.{Result}
+use Rattle.std.specs.declared.result.Result.TheVariants.{Ok, Err}
 use Rattle.refusal.specs.Answer.{Answer, refused, accepted, by_answer, and_then}
+use Rattle.refusal.specs.declared.Refusal.{Refusal}
 
 -- a refusal is not an accepted call
 pub never_both : {A B : Type 0} {n : ℕ} {x : A} → refused n ≡ accepted x → B
@@ -29,3 +33,8 @@ then_says (accepted values) go x e = record { values = values; first = refl; sec
 pub by_cases : {A B : Type 0} (t : Answer A) → ((n : ℕ) → t ≡ refused n → B) → ((x : A) → t ≡ accepted x → B) → B
 by_cases (refused n) f g = f n refl
 by_cases (accepted x) f g = g x refl
+
+-- what `?` hands on is the refusal itself
+pub handed_on : {T : Type 0} {refusal : Refusal} (r : Result T Refusal) → IsErrAnd r (λ handed. handed ≡ refusal) → r ≡ Err refusal
+handed_on (Ok value) h = absurd h
+handed_on (Err handed) h = ap Err h

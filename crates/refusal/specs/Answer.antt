@@ -2,6 +2,10 @@
 -- all 0": it has no values.
 -- Assumes nothing.
 use Rattle.std.specs.Prelude.{ℕ}
+use Rattle.std.specs.declared.result.Result.{Result}
+use Rattle.std.specs.declared.result.Result.TheVariants.{Ok, Err}
+use Rattle.refusal.specs.declared.Refusal.{Refusal}
+use Rattle.refusal.specs.Number.{number_of}
 
 pub data Answer (A : Type 0) : Type 0 where
   refused : (number : ℕ) → Answer A
@@ -20,3 +24,8 @@ and_then (accepted values) go = go values
 -- the answer of a test: nothing is refused
 abbrev pub sound : Answer (Unit {0})
 sound = accepted tt
+
+-- a call's result in document 01's numbers
+abbrev pub answer_of : {A : Type 0} → Result A Refusal → Answer A
+answer_of (Ok values) = accepted values
+answer_of (Err refusal) = refused (number_of refusal)

@@ -5,45 +5,34 @@
 ghost use Rattle.std.specs.Prelude.{◌≡◌};
 ghost use Rattle.refusal.specs.Number.{number_of};
 
-#[derive(Clone, Copy)]
+#[derive(Clone, Copy, Debug, PartialEq, Eq)]
 pub enum Refusal {
     // A buffer is over its most, or not whole records, or a target is too short.
-    InvalidBuffer,
+    InvalidBuffer = 1,
     // The directory breaks its rule, or append finds a used count of 0.
-    InvalidDirectory,
+    InvalidDirectory = 2,
     // The entry call was given what is not a well-formed entry.
-    InvalidEntry,
+    InvalidEntry = 3,
     // A new segment is needed and the last id is 2^64 - 1.
-    NoNextSegmentId,
+    NoNextSegmentId = 4,
     // A new segment finds no unused directory record, or an entry exceeds the area left.
-    NoRoom,
+    NoRoom = 5,
     // More accepted entries than entry records.
-    EntryListFull,
+    EntryListFull = 6,
     // More distinct numbers than transaction records.
-    TransactionsFull,
+    TransactionsFull = 7,
     // Replay: the first entry that can't be applied is an insert or update too long for a record.
-    ExceedsTableRecord,
+    ExceedsTableRecord = 8,
     // Replay: the first entry that can't be applied fits but needs a new record in a full table.
-    TableFull,
+    TableFull = 9,
     // Checkpoint: no committed number exceeds the stored one.
-    NoNewCheckpoints,
+    NoNewCheckpoints = 10,
 }
 
 impl Refusal {
     pub fn number(self) -> u64
         ensures { result ≡ number_of self }
     {
-        match self {
-            Refusal::InvalidBuffer => 1,
-            Refusal::InvalidDirectory => 2,
-            Refusal::InvalidEntry => 3,
-            Refusal::NoNextSegmentId => 4,
-            Refusal::NoRoom => 5,
-            Refusal::EntryListFull => 6,
-            Refusal::TransactionsFull => 7,
-            Refusal::ExceedsTableRecord => 8,
-            Refusal::TableFull => 9,
-            Refusal::NoNewCheckpoints => 10,
-        }
+        self as u64
     }
 }

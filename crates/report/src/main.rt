@@ -4,7 +4,6 @@
 
 mod one_segment;
 
-use recovery::Recovery;
 use std::io;
 
 fn main(rt: HostRuntime) -> io::Result<()> {
@@ -13,7 +12,7 @@ fn main(rt: HostRuntime) -> io::Result<()> {
     let n = console::read_full(&mut rt.stdin(), &mut input)?;
     // With these lists no segment is refused but one that is too long.
     match one_segment::recover(&input[..n]) {
-        Recovery::Refused(refusal) => console::print_refused(&rt, refusal),
-        Recovery::Done(recovered) => console::print_report(&rt, recovered),
+        Ok(recovered) => console::print_report(&rt, recovered),
+        Err(refusal) => console::print_refused(&rt, refusal),
     }
 }

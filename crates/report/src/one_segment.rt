@@ -1,12 +1,13 @@
 // The recovery of a log that is one segment.
 ghost use Rattle.std.specs.Prelude.{◌≡◌};
-ghost use Rattle.recovery.specs.Recover.{recovery_as};
+ghost use Rattle.refusal.specs.Answer.{answer_of};
 ghost use Rattle.report.specs.Report.{report_of};
 
 use directory::record::SegmentRecord;
 use lists::entries::EntryRecord;
 use lists::transactions::TransactionRecord;
-use recovery::Recovery;
+use records::record::Record;
+use recovery::Recovered;
 use refusal::Refusal;
 
 // Bytes of a segment.
@@ -15,11 +16,11 @@ pub(crate) const MOST: usize = 65_536;
 // Of each list. Always enough: an entry has at least 33 bytes.
 const RECORDS: usize = 1_985;
 
-pub(crate) fn recover(segment: &[u8]) -> Recovery
-    ensures { recovery_as result ≡ report_of segment.now }
+pub(crate) fn recover(segment: &[u8]) -> Result<Recovered, Refusal>
+    ensures { answer_of result ≡ report_of segment.now }
 {
     if MOST < segment.len() {
-        return Recovery::Refused(Refusal::InvalidBuffer);
+        return Err(Refusal::InvalidBuffer);
     }
     let mut directory = [0; SegmentRecord::SIZE];
     // The segment is the whole area.

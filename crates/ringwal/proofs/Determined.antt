@@ -18,7 +18,7 @@ use Rattle.recovery.specs.Checkpoint.{Checkpointing}
 use Rattle.truncation.specs.Truncate.{Truncating}
 use Rattle.table.specs.Change.{Changed}
 use Rattle.store.specs.Replay.{Replaying}
-use Rattle.ringwal.proofs.Views.{named_once, tested_once, new_segment_once, planned_once, opening_once, appended_once, appending_once, recovery_once, checkpointed_once, truncated_once, set_once}
+use Rattle.ringwal.proofs.Views.{answer_once, opening_once, appending_once}
 use Rattle.refusal.specs.contracts.Refusal.number as refusal_number
 use Rattle.fields.specs.contracts.higher as higher
 use Rattle.fields.specs.contracts.get_le as get_le
@@ -216,7 +216,7 @@ module _ {M : Type 1} {𝓤 : Ura M} (𝓛 : Logic 𝓤) (mem : Memory → SProp
   -- ---- names
 
   pub segment_name_determined : Determined segment_name.ended (segment_name.clauses 𝓛 mem run)
-  segment_name_determined κs a g r r' ws ws' = told 𝓤 (λ e f. let p = e ∙ sym f in (named_once (ap (λ (l : Naming). l.answer) p), λ i. (tt, ((p i).target, tt))))
+  segment_name_determined κs a g r r' ws ws' = told 𝓤 (λ e f. let p = e ∙ sym f in (answer_once (ap (λ (l : Naming). l.answer) p), λ i. (tt, ((p i).target, tt))))
 
   pub parse_segment_name_determined : Determined parse_segment_name.ended (parse_segment_name.clauses 𝓛 mem run)
   parse_segment_name_determined κs a g r r' ws ws' = answer refl
@@ -239,18 +239,18 @@ module _ {M : Type 1} {𝓤 : Ura M} (𝓛 : Logic 𝓤) (mem : Memory → SProp
   put_record_determined κs a g r r' ws ws' = buffer refl
 
   pub test_determined : Determined test.ended (test.clauses 𝓛 mem run)
-  test_determined κs a g r r' ws ws' = told 𝓤 (λ e f. (tested_once (e ∙ sym f), refl))
+  test_determined κs a g r r' ws ws' = told 𝓤 (λ e f. (answer_once (e ∙ sym f), refl))
 
   -- ---- plan
 
   pub new_segment_determined : Determined new_segment.ended (new_segment.clauses 𝓛 mem run)
-  new_segment_determined κs a g r r' ws ws' = told 𝓤 (λ e f. (new_segment_once (e ∙ sym f), refl))
+  new_segment_determined κs a g r r' ws ws' = told 𝓤 (λ e f. (answer_once (e ∙ sym f), refl))
 
   pub append_test_determined : Determined append_test.ended (append_test.clauses 𝓛 mem run)
-  append_test_determined κs a g r r' ws ws' = told 𝓤 (λ e f. (tested_once (e ∙ sym f), refl))
+  append_test_determined κs a g r r' ws ws' = told 𝓤 (λ e f. (answer_once (e ∙ sym f), refl))
 
   pub plan_append_determined : Determined plan_append.ended (plan_append.clauses 𝓛 mem run)
-  plan_append_determined κs a g r r' ws ws' = told 𝓤 (λ e f. (planned_once (e ∙ sym f), refl))
+  plan_append_determined κs a g r r' ws ws' = told 𝓤 (λ e f. (answer_once (e ∙ sym f), refl))
 
   -- ---- segment
 
@@ -337,10 +337,10 @@ module _ {M : Type 1} {𝓤 : Ura M} (𝓛 : Logic 𝓤) (mem : Memory → SProp
   -- ---- recovery
 
   pub recover_determined : Determined recover.ended (recover.clauses 𝓛 mem run)
-  recover_determined κs a g r r' ws ws' = told 𝓤 (λ e f. let p = e ∙ sym f in (recovery_once (ap (λ (l : Recovering). l.answer) p), λ i. (tt, (tt, (tt, ((p i).entries, ((p i).transactions, tt)))))))
+  recover_determined κs a g r r' ws ws' = told 𝓤 (λ e f. let p = e ∙ sym f in (answer_once (ap (λ (l : Recovering). l.answer) p), λ i. (tt, (tt, (tt, ((p i).entries, ((p i).transactions, tt)))))))
 
   pub checkpoint_determined : Determined checkpoint.ended (checkpoint.clauses 𝓛 mem run)
-  checkpoint_determined κs a g r r' ws ws' = told 𝓤 (λ e f. let p = e ∙ sym f in (checkpointed_once (ap (λ (l : Checkpointing). l.answer) p), λ i. (tt, (tt, (tt, ((p i).entries, ((p i).transactions, (tt, ((p i).target, tt)))))))))
+  checkpoint_determined κs a g r r' ws ws' = told 𝓤 (λ e f. let p = e ∙ sym f in (answer_once (ap (λ (l : Checkpointing). l.answer) p), λ i. (tt, (tt, (tt, ((p i).entries, ((p i).transactions, (tt, ((p i).target, tt)))))))))
 
   pub read_checkpoint_determined : Determined read_checkpoint.ended (read_checkpoint.clauses 𝓛 mem run)
   read_checkpoint_determined κs a g r r' ws ws' = answer refl
@@ -348,7 +348,7 @@ module _ {M : Type 1} {𝓤 : Ura M} (𝓛 : Logic 𝓤) (mem : Memory → SProp
   -- ---- truncation
 
   pub truncate_determined : Determined truncate.ended (truncate.clauses 𝓛 mem run)
-  truncate_determined κs a g r r' ws ws' = told 𝓤 (λ e f. let p = e ∙ sym f in (truncated_once (ap (λ (l : Truncating). l.answer) p), λ i. (tt, ((p i).directory, (tt, (tt, tt))))))
+  truncate_determined κs a g r r' ws ws' = told 𝓤 (λ e f. let p = e ∙ sym f in (answer_once (ap (λ (l : Truncating). l.answer) p), λ i. (tt, ((p i).directory, (tt, (tt, tt))))))
 
   -- ---- table
 
@@ -359,15 +359,15 @@ module _ {M : Type 1} {𝓤 : Ura M} (𝓛 : Logic 𝓤) (mem : Memory → SProp
   find_key_determined κs a g r r' ws ws' = answer refl
 
   pub set_determined : Determined set.ended (set.clauses 𝓛 mem run)
-  set_determined κs a g r r' ws ws' = told 𝓤 (λ e f. let p = e ∙ sym f in (set_once (ap (λ (c : Changed). c.answer) p), λ i. ((p i).table, (tt, (tt, (tt, tt))))))
+  set_determined κs a g r r' ws ws' = told 𝓤 (λ e f. let p = e ∙ sym f in (answer_once (ap (λ (c : Changed). c.answer) p), λ i. ((p i).table, (tt, (tt, (tt, tt))))))
 
   pub remove_determined : Determined remove.ended (remove.clauses 𝓛 mem run)
-  remove_determined κs a g r r' ws ws' = told 𝓤 (λ e f. let p = e ∙ sym f in (set_once (ap (λ (c : Changed). c.answer) p), λ i. ((p i).table, (tt, (tt, tt)))))
+  remove_determined κs a g r r' ws ws' = told 𝓤 (λ e f. let p = e ∙ sym f in (answer_once (ap (λ (c : Changed). c.answer) p), λ i. ((p i).table, (tt, (tt, tt)))))
 
   -- ---- store
 
   pub recover_into_store_determined : Determined recover_into_store.ended (recover_into_store.clauses 𝓛 mem run)
-  recover_into_store_determined κs a g r r' ws ws' = told 𝓤 (λ e f. let p = e ∙ sym f in (recovery_once (ap (λ (l : Replaying). l.answer) p), λ i. (tt, (tt, (tt, ((p i).entries, ((p i).transactions, ((p i).table, tt))))))))
+  recover_into_store_determined κs a g r r' ws ws' = told 𝓤 (λ e f. let p = e ∙ sym f in (answer_once (ap (λ (l : Replaying). l.answer) p), λ i. (tt, (tt, (tt, ((p i).entries, ((p i).transactions, ((p i).table, tt))))))))
 
   -- ---- the thin forms
 
@@ -384,4 +384,4 @@ module _ {M : Type 1} {𝓤 : Ura M} (𝓛 : Logic 𝓤) (mem : Memory → SProp
   count_entries_determined κs a g r r' ws ws' = answer refl
 
   pub append_in_place_determined : Determined append_in_place.ended (append_in_place.clauses 𝓛 mem run)
-  append_in_place_determined κs a g r r' ws ws' = told 𝓤 (λ e f. let p = e ∙ sym f in (appended_once (ap (λ (l : Log). l.answer) p), λ i. ((p i).manager, ((p i).area, ((p i).directory, (tt, (tt, (tt, (tt, (tt, (tt, (tt, (tt, tt)))))))))))))
+  append_in_place_determined κs a g r r' ws ws' = told 𝓤 (λ e f. let p = e ∙ sym f in (answer_once (ap (λ (l : Log). l.answer) p), λ i. ((p i).manager, ((p i).area, ((p i).directory, (tt, (tt, (tt, (tt, (tt, (tt, (tt, (tt, tt)))))))))))))

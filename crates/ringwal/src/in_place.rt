@@ -4,6 +4,7 @@ ghost use Rattle.std.specs.Prelude.{◌≡◌};
 ghost use Rattle.payload.specs.Encode.{asked};
 ghost use Rattle.segment.specs.Writing.{append_of, appended};
 
+use refusal::Refusal;
 use segment::{Appended, SegmentManager};
 
 pub fn append(
@@ -18,7 +19,7 @@ pub fn append(
     key: &[u8],
     old_value: &[u8],
     new_value: &[u8],
-) -> Appended
+) -> Result<Appended, Refusal>
     ensures { appended (record { manager = manager.new; answer = result }) area.new directory.new ≡ append_of manager.old area.old directory.old used lsn tx_id timestamp (asked kind key.now old_value.now new_value.now) }
 {
     let before = *manager;

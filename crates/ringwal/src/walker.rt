@@ -62,15 +62,10 @@ pub fn walk_at(segment: &[u8], at: usize) -> Walked
 pub fn count_entries(segment: &[u8]) -> usize
     ensures { result ≡ length (read_segment segment.now).good }
 {
+    let mut walker = SegmentWalker::new(segment);
     let mut count = 0;
-    let mut at = 0;
-    loop {
-        let walked = walk_at(segment, at);
-        let step = walked.step;
-        let Step::Entry { .. } = step else {
-            return count;
-        };
-        count = count + 1;
-        at = walked.at;
+    while let Step::Entry { .. } = walker.step() {
+        count += 1;
     }
+    count
 }

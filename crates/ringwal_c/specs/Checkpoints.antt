@@ -3,7 +3,8 @@
 use Rattle.std.specs.Prelude.{◌≡◌, List, ℕ}
 use Rattle.refusal.specs.Answer.{Answer}
 use Rattle.recovery.specs.Checkpoint.{Checkpointing}
-use Rattle.truncation.specs.Truncate.{Freed, Truncating}
+use Rattle.truncation.specs.Truncate.{Truncating}
+use Rattle.truncation.specs.declared.Truncated as Below
 use Rattle.ringwal_c.specs.Answers.{refusal_in, value_in}
 use Rattle.ringwal_c.specs.declared.checkpoints.CheckpointAnswer.{CheckpointAnswer}
 use Rattle.ringwal_c.specs.declared.checkpoints.TruncateAnswer.{TruncateAnswer}
@@ -28,12 +29,12 @@ checkpoint_for r = checkpointed (checkpoint_answer r.answer) r.entries r.transac
 
 -- ---- truncation
 
-abbrev pub truncate_answer : Answer Freed → TruncateAnswer
-truncate_answer answer = record { refusal = refusal_in answer; count = value_in answer (λ (f : Freed). f.count) 0 }
+abbrev pub truncate_answer : Answer Below.Truncated → TruncateAnswer
+truncate_answer answer = record { refusal = refusal_in answer; count = value_in answer (λ (t : Below.Truncated). t.count) 0 }
 
 -- a refusal leaves the used count alone
-abbrev pub used_after : Answer Freed → (before : ℕ) → ℕ
-used_after answer before = value_in answer (λ (f : Freed). f.used) before
+abbrev pub used_after : Answer Below.Truncated → (before : ℕ) → ℕ
+used_after answer before = value_in answer (λ (t : Below.Truncated). t.used) before
 
 pub record Truncated : Type 0 where
   pub answer : TruncateAnswer
@@ -47,6 +48,6 @@ abbrev pub truncate_for : Truncating → (used : ℕ) → Truncated
 truncate_for r used = truncated (truncate_answer r.answer) (used_after r.answer used) r.directory
 
 -- of the function inside: what was given back, for a host
-pub record TruncatesAs (below : Answer Freed) (before : ℕ) (r : TruncateAnswer) (after : ℕ) : Type 0 where
+pub record TruncatesAs (below : Answer Below.Truncated) (before : ℕ) (r : TruncateAnswer) (after : ℕ) : Type 0 where
   pub answer : r ≡ truncate_answer below
   pub used : after ≡ used_after below before

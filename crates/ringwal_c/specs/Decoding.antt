@@ -1,11 +1,12 @@
 -- A decoded entry as a C host has it.
 -- Assumes nothing.
+use Rattle.std.specs.declared.option.Option.{Option}
+use Rattle.std.specs.declared.option.Option.TheVariants.{None, Some}
 use Rattle.entry.specs.Parts.{tx_of, time_of, kind_of}
 use Rattle.entry.specs.declared.Place.{Place}
 use Rattle.entry.specs.declared.WalEntry.{WalEntry}
 use Rattle.entry.specs.declared.WalEntry.TheVariants.{Insert, Update, Delete, Commit, Abort}
 use Rattle.entry.specs.declared.decoding.Decoded.{Decoded}
-use Rattle.entry.specs.declared.decoding.Decoded.TheVariants.{Refused, Entry}
 use Rattle.ringwal_c.specs.declared.decoding.Span.{Span}
 use Rattle.ringwal_c.specs.declared.decoding.Parts.{Parts}
 use Rattle.ringwal_c.specs.declared.decoding.DecodeAnswer.{DecodeAnswer}
@@ -31,14 +32,14 @@ abbrev pub refused_answer : DecodeAnswer
 refused_answer = record { is_entry = 0; kind = 0; tx_id = 0; timestamp = 0; used = 0; parts = no_parts }
 
 -- "A decoding answer is either an unnumbered refusal or the entry"
-abbrev pub decode_answer : Decoded → DecodeAnswer
-decode_answer Refused = refused_answer
-decode_answer (Entry entry used) =
+abbrev pub decode_answer : Option Decoded → DecodeAnswer
+decode_answer None = refused_answer
+decode_answer (Some decoded) =
     record {
       is_entry = 1;
-      kind = kind_of entry;
-      tx_id = tx_of entry;
-      timestamp = time_of entry;
-      used = used;
-      parts = parts_of entry;
+      kind = kind_of decoded.entry;
+      tx_id = tx_of decoded.entry;
+      timestamp = time_of decoded.entry;
+      used = decoded.used;
+      parts = parts_of decoded.entry;
     }

@@ -6,7 +6,7 @@ use Rattle.fields.specs.Le.{le_of, le_bytes}
 use Rattle.directory.specs.Lent.{fits_of}
 use Rattle.directory.specs.Record.{record_at, record_bytes, records_of}
 use Rattle.directory.specs.Rule.{lies_of, follows_of, rule_from, directory_rule, test_of}
-use Rattle.names.specs.declared.Parsed.TheVariants.{NoName, Id}
+use Rattle.std.specs.declared.option.Option.TheVariants.{None, Some}
 use Rattle.payload.specs.Content.{commit, fixed_bytes, payload_of, well_formed}
 use Rattle.refusal.specs.Answer.{refused}
 use Rattle.recovery.specs.declared.Next.TheVariants.{Exhausted}
@@ -41,8 +41,8 @@ exhausted : next_state Exhausted ≡ 2
 exhausted = refl
 
 -- `wal-+5.log` reads as 5 and isn't kept
-not_kept : parse_answer (Id 5 false) ≡ record { is_name = 1; id = 5; kept = 0 }
+not_kept : parse_answer (Some (record { id = 5; kept = false })) ≡ record { is_name = 1; id = 5; kept = 0 }
 not_kept = refl
 
-no_name : parse_answer NoName ≡ record { is_name = 0; id = 0; kept = 0 }
+no_name : parse_answer None ≡ record { is_name = 0; id = 0; kept = 0 }
 no_name = refl

@@ -1,11 +1,12 @@
 -- The house records as a C host has them.
 -- Assumes nothing.
+use Rattle.std.specs.Prelude.{ℕ}
+use Rattle.std.specs.declared.result.Result.{Result}
+use Rattle.std.specs.declared.result.Result.TheVariants.{Ok, Err}
 use Rattle.directory.specs.declared.record.SegmentRecord.{SegmentRecord}
 use Rattle.lists.specs.Transactions.{action_number}
 use Rattle.lists.specs.declared.entries.EntryRecord.{EntryRecord}
 use Rattle.lists.specs.declared.transactions.TransactionRecord.{TransactionRecord}
-use Rattle.records.specs.declared.Found.{Found}
-use Rattle.records.specs.declared.Found.TheVariants.{At, Gap}
 use Rattle.table.specs.declared.row.RowRecord.{RowRecord}
 use Rattle.ringwal_c.specs.declared.house_records.Segment.{Segment}
 use Rattle.ringwal_c.specs.declared.house_records.Entry.{Entry}
@@ -29,6 +30,6 @@ transaction_for t = record { tx_id = t.tx_id; action = action_number t.action; c
 abbrev pub row_for : RowRecord → Row
 row_for r = record { mark = r.mark; key_len = r.key_len; value_len = r.value_len }
 
-abbrev pub find_answer : Found → FindAnswer
-find_answer (At place) = record { is_found = 1; place = place }
-find_answer (Gap place) = record { is_found = 0; place = place }
+abbrev pub find_answer : Result ℕ ℕ → FindAnswer
+find_answer (Ok place) = record { is_found = 1; place = place }
+find_answer (Err place) = record { is_found = 0; place = place }

@@ -1,10 +1,11 @@
 -- The names of segment files as a C host has them.
 -- Assumes nothing.
 use Rattle.std.specs.Prelude.{cond, List, ℕ}
+use Rattle.std.specs.declared.option.Option.{Option}
+use Rattle.std.specs.declared.option.Option.TheVariants.{None, Some}
 use Rattle.refusal.specs.Answer.{Answer}
 use Rattle.names.specs.Name.{Naming, name_into}
 use Rattle.names.specs.declared.Parsed.{Parsed}
-use Rattle.names.specs.declared.Parsed.TheVariants.{NoName, Id}
 use Rattle.ringwal_c.specs.Answers.{refusal_in, value_in}
 use Rattle.ringwal_c.specs.declared.naming.NameAnswer.{NameAnswer}
 use Rattle.ringwal_c.specs.declared.naming.ParseAnswer.{ParseAnswer}
@@ -28,6 +29,6 @@ abbrev pub name_for : (id : ℕ) → (target : List ℕ) → Named
 name_for id target = for_host (name_into id target)
 
 -- "Reading answers "no name", or the id and whether writing it gives the same name back"
-abbrev pub parse_answer : Parsed → ParseAnswer
-parse_answer NoName = record { is_name = 0; id = 0; kept = 0 }
-parse_answer (Id id kept) = record { is_name = 1; id = id; kept = cond kept 1 0 }
+abbrev pub parse_answer : Option Parsed → ParseAnswer
+parse_answer None = record { is_name = 0; id = 0; kept = 0 }
+parse_answer (Some parsed) = record { is_name = 1; id = parsed.id; kept = cond parsed.kept 1 0 }

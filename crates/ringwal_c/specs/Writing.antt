@@ -1,10 +1,10 @@
 -- The writer as a C host has it: its state a struct of numbers, a refusal by its number, 0 where there is none.
 -- Assumes nothing.
 use Rattle.std.specs.Prelude.{◌≡◌, List, ℕ}
-use Rattle.refusal.specs.Answer.{Answer}
-use Rattle.segment.specs.Answer.{Added, opened_as, appended_as}
+use Rattle.refusal.specs.Answer.{Answer, answer_of}
 use Rattle.segment.specs.Writing.{OpenedLog, Log}
 use Rattle.segment.specs.declared.SegmentManager.{SegmentManager}
+use Rattle.segment.specs.declared.Appended as Below
 use Rattle.segment.specs.declared.Opening.{Opening}
 use Rattle.segment.specs.declared.Appending.{Appending}
 use Rattle.ringwal_c.specs.Answers.{refusal_in, value_in}
@@ -70,12 +70,12 @@ abbrev pub appended : AppendAnswer → (used : ℕ) → (directory area : List �
 appended answer used directory area = record { answer = answer; used = used; directory = directory; area = area }
 
 -- the bytes written; a refused call wrote none
-abbrev pub append_answer : Answer Added → SegmentManager → AppendAnswer
+abbrev pub append_answer : Answer Below.Appended → SegmentManager → AppendAnswer
 append_answer answer m =
-    record { refusal = refusal_in answer; len = value_in answer (λ (a : Added). a.len) 0; writer = writer_of m }
+    record { refusal = refusal_in answer; len = value_in answer (λ (a : Below.Appended). a.len) 0; writer = writer_of m }
 
-abbrev pub used_appended : Answer Added → (before : ℕ) → ℕ
-used_appended answer before = value_in answer (λ (a : Added). a.used) before
+abbrev pub used_appended : Answer Below.Appended → (before : ℕ) → ℕ
+used_appended answer before = value_in answer (λ (a : Below.Appended). a.used) before
 
 abbrev pub append_for : Log → (used : ℕ) → Appended
 append_for log used =
@@ -113,9 +113,9 @@ in_place_of r =
 -- ---- of the functions inside: what was given back, for a host
 
 pub record OpensAs (opening : Opening) (before : ℕ) (r : OpenAnswer) (after : ℕ) : Type 0 where
-  pub answer : r ≡ open_answer (opened_as opening.answer) opening.manager
-  pub used : after ≡ used_opened (opened_as opening.answer) before
+  pub answer : r ≡ open_answer (answer_of opening.answer) opening.manager
+  pub used : after ≡ used_opened (answer_of opening.answer) before
 
 pub record AppendsAs (appending : Appending) (before : ℕ) (r : AppendAnswer) (after : ℕ) : Type 0 where
-  pub answer : r ≡ append_answer (appended_as appending.answer) appending.manager
-  pub used : after ≡ used_appended (appended_as appending.answer) before
+  pub answer : r ≡ append_answer (answer_of appending.answer) appending.manager
+  pub used : after ≡ used_appended (answer_of appending.answer) before

@@ -1,10 +1,11 @@
 // The checkpoint, and truncation by it.
 ghost use Rattle.std.specs.Prelude.{◌≡◌};
-ghost use Rattle.recovery.specs.Checkpoint.{checkpointed_as, checkpoint_at, checkpoint_of};
-ghost use Rattle.truncation.specs.Truncate.{truncated_as, truncate_of};
+ghost use Rattle.refusal.specs.Answer.{answer_of};
+ghost use Rattle.recovery.specs.Checkpoint.{checkpoint_at, checkpoint_of};
+ghost use Rattle.truncation.specs.Truncate.{truncate_of};
 ghost use Rattle.ringwal_c.specs.Checkpoints.{checkpoint_answer, checkpointed, checkpoint_for, TruncatesAs, truncated, truncate_for};
 
-use recovery::Checkpointed;
+use refusal::Refusal;
 use truncation::Truncated;
 
 #[repr(C)]
@@ -22,31 +23,31 @@ pub struct TruncateAnswer {
     pub count: usize,
 }
 
-fn checkpoint_answer(checkpointed: Checkpointed) -> CheckpointAnswer
-    ensures { result ≡ checkpoint_answer (checkpointed_as checkpointed) }
+fn checkpoint_answer(checkpointed: Result<u64, Refusal>) -> CheckpointAnswer
+    ensures { result ≡ checkpoint_answer (answer_of checkpointed) }
 {
     match checkpointed {
-        Checkpointed::Refused(refusal) => CheckpointAnswer {
+        Ok(number) => CheckpointAnswer { refusal: 0, number },
+        Err(refusal) => CheckpointAnswer {
             refusal: refusal.number(),
             number: 0,
         },
-        Checkpointed::At(number) => CheckpointAnswer { refusal: 0, number },
     }
 }
 
 // A refusal leaves the used count alone.
-fn truncate_answer(truncated: Truncated, used: &mut usize) -> TruncateAnswer
-    ensures { TruncatesAs (truncated_as truncated) used.old result used.new }
+fn truncate_answer(truncated: Result<Truncated, Refusal>, used: &mut usize) -> TruncateAnswer
+    ensures { TruncatesAs (answer_of truncated) used.old result used.new }
 {
     match truncated {
-        Truncated::Refused(refusal) => TruncateAnswer {
-            refusal: refusal.number(),
-            count: 0,
-        },
-        Truncated::Dropped { count, used: after } => {
+        Ok(Truncated { count, used: after }) => {
             *used = after;
             TruncateAnswer { refusal: 0, count }
         }
+        Err(refusal) => TruncateAnswer {
+            refusal: refusal.number(),
+            count: 0,
+        },
     }
 }
 

@@ -43,41 +43,45 @@ pub struct DecodeAnswer {
     pub parts: Parts,
 }
 
-fn span_of(place: Place) -> Span
-    ensures { result ≡ span_of place }
-{
-    Span {
-        start: place.start,
-        len: place.len,
+impl From<Place> for Span {
+    ghost from_gives = { λ place span. span ≡ span_of place };
+
+    fn from(place: Place) -> Span {
+        Span {
+            start: place.start,
+            len: place.len,
+        }
     }
 }
 
-fn parts_of(entry: WalEntry) -> Parts
-    ensures { result ≡ parts_of entry }
-{
-    match entry {
-        WalEntry::Insert { key, value, .. } => Parts {
-            key: span_of(key),
-            old_value: NO_SPAN,
-            new_value: span_of(value),
-        },
-        WalEntry::Update {
-            key,
-            old_value,
-            new_value,
-            ..
-        } => Parts {
-            key: span_of(key),
-            old_value: span_of(old_value),
-            new_value: span_of(new_value),
-        },
-        WalEntry::Delete { key, old_value, .. } => Parts {
-            key: span_of(key),
-            old_value: span_of(old_value),
-            new_value: NO_SPAN,
-        },
-        WalEntry::Commit { .. } => NO_PARTS,
-        WalEntry::Abort { .. } => NO_PARTS,
+impl From<WalEntry> for Parts {
+    ghost from_gives = { λ entry parts. parts ≡ parts_of entry };
+
+    fn from(entry: WalEntry) -> Parts {
+        match entry {
+            WalEntry::Insert { key, value, .. } => Parts {
+                key: Span::from(key),
+                old_value: NO_SPAN,
+                new_value: Span::from(value),
+            },
+            WalEntry::Update {
+                key,
+                old_value,
+                new_value,
+                ..
+            } => Parts {
+                key: Span::from(key),
+                old_value: Span::from(old_value),
+                new_value: Span::from(new_value),
+            },
+            WalEntry::Delete { key, old_value, .. } => Parts {
+                key: Span::from(key),
+                old_value: Span::from(old_value),
+                new_value: NO_SPAN,
+            },
+            WalEntry::Commit { .. } => NO_PARTS,
+            WalEntry::Abort { .. } => NO_PARTS,
+        }
     }
 }
 
@@ -98,15 +102,15 @@ fn refused() -> DecodeAnswer
 pub extern "C" fn ringwal_decode(payload: &[u8]) -> DecodeAnswer
     ensures { result ≡ decode_answer (decode_of payload.now) }
 {
-    let Decoded::Entry { entry, used } = entry::decode(payload) else {
+    let Some(Decoded { entry, used }) = entry::decode(payload) else {
         return refused();
     };
     DecodeAnswer {
         is_entry: 1,
-        kind: entry.kind() as u64,
+        kind: u64::from(entry.kind()),
         tx_id: entry.tx_id(),
         timestamp: entry.timestamp(),
         used,
-        parts: parts_of(entry),
+        parts: Parts::from(entry),
     }
 }

@@ -1,9 +1,11 @@
 // The names of segment files.
-ghost use Rattle.std.specs.Prelude.{◌≡◌, cond};
-ghost use Rattle.names.specs.Name.{named_as, read_of};
+ghost use Rattle.std.specs.Prelude.{◌≡◌};
+ghost use Rattle.refusal.specs.Answer.{answer_of};
+ghost use Rattle.names.specs.Name.{read_of};
 ghost use Rattle.ringwal_c.specs.Naming.{name_answer, named, name_for, parse_answer};
 
-use names::{Named, Parsed};
+use names::Parsed;
+use refusal::Refusal;
 
 #[repr(C)]
 #[derive(Clone, Copy)]
@@ -22,15 +24,15 @@ pub struct ParseAnswer {
     pub kept: u64,
 }
 
-fn name_answer(named: Named) -> NameAnswer
-    ensures { result ≡ name_answer (named_as named) }
+fn name_answer(named: Result<usize, Refusal>) -> NameAnswer
+    ensures { result ≡ name_answer (answer_of named) }
 {
     match named {
-        Named::Refused(refusal) => NameAnswer {
+        Ok(len) => NameAnswer { refusal: 0, len },
+        Err(refusal) => NameAnswer {
             refusal: refusal.number(),
             len: 0,
         },
-        Named::Written(len) => NameAnswer { refusal: 0, len },
     }
 }
 
@@ -41,26 +43,20 @@ pub extern "C" fn ringwal_segment_name(id: u64, target: &mut [u8]) -> NameAnswer
     name_answer(names::segment_name(id, target))
 }
 
-fn flag(kept: bool) -> u64
-    ensures { result ≡ cond kept 1 0 }
-{
-    if kept { 1 } else { 0 }
-}
-
 #[unsafe(no_mangle)]
 pub extern "C" fn ringwal_parse_segment_name(name: &[u8]) -> ParseAnswer
     ensures { result ≡ parse_answer (read_of name.now) }
 {
     match names::parse_segment_name(name) {
-        Parsed::NoName => ParseAnswer {
+        None => ParseAnswer {
             is_name: 0,
             id: 0,
             kept: 0,
         },
-        Parsed::Id { id, kept } => ParseAnswer {
+        Some(Parsed { id, kept }) => ParseAnswer {
             is_name: 1,
             id,
-            kept: flag(kept),
+            kept: u64::from(kept),
         },
     }
 }

@@ -1,10 +1,12 @@
 // Recovery and replay.
 ghost use Rattle.std.specs.Prelude.{◌≡◌};
-ghost use Rattle.recovery.specs.Recover.{recovery_as, recover_of};
+ghost use Rattle.refusal.specs.Answer.{answer_of};
+ghost use Rattle.recovery.specs.Recover.{recover_of};
 ghost use Rattle.store.specs.Replay.{replay_of};
 ghost use Rattle.ringwal_c.specs.Recovering.{next_state, next_number, refused_answer, recover_answer, recovered, recover_for, replayed, replay_for};
 
-use recovery::{Next, Recovery};
+use recovery::{Next, Recovered};
+use refusal::Refusal;
 
 // `next` is 0 where the next number is unchanged, 1 where it is `next_number`, 2 where it is exhausted.
 #[repr(C)]
@@ -61,12 +63,12 @@ fn refused(refusal: u64) -> RecoverAnswer
 }
 
 // Replay answers as recovery does.
-fn recover_answer(recovery: Recovery) -> RecoverAnswer
-    ensures { result ≡ recover_answer (recovery_as recovery) }
+fn recover_answer(recovery: Result<Recovered, Refusal>) -> RecoverAnswer
+    ensures { result ≡ recover_answer (answer_of recovery) }
 {
     match recovery {
-        Recovery::Refused(refusal) => refused(refusal.number()),
-        Recovery::Done(recovered) => {
+        Err(refusal) => refused(refusal.number()),
+        Ok(recovered) => {
             let stats = recovered.stats;
             let next = recovered.next;
             RecoverAnswer {

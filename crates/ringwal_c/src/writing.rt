@@ -4,7 +4,7 @@ ghost use Rattle.payload.specs.Encode.{asked};
 ghost use Rattle.segment.specs.Writing.{fresh, default_bound, open_of, rotate_of, append_entry_of, append_of};
 ghost use Rattle.ringwal_c.specs.Writing.{writer_of, manager_of, OpensAs, AppendsAs, opened, open_for, appended, append_for};
 
-use segment::{Appended, Appending, Opened, Opening, SegmentManager};
+use segment::{Appended, Appending, Opening, SegmentManager};
 
 #[repr(C)]
 #[derive(Clone, Copy)]
@@ -31,25 +31,29 @@ pub struct AppendAnswer {
     pub writer: Writer,
 }
 
-fn manager_of(writer: Writer) -> SegmentManager
-    ensures { result ≡ manager_of writer }
-{
-    SegmentManager {
-        max_segment_size: writer.max_segment_size,
-        entry_count: writer.entry_count,
-        first_lsn: writer.first_lsn,
-        last_lsn: writer.last_lsn,
+impl From<Writer> for SegmentManager {
+    ghost from_gives = { λ writer manager. manager ≡ manager_of writer };
+
+    fn from(writer: Writer) -> SegmentManager {
+        SegmentManager {
+            max_segment_size: writer.max_segment_size,
+            entry_count: writer.entry_count,
+            first_lsn: writer.first_lsn,
+            last_lsn: writer.last_lsn,
+        }
     }
 }
 
-fn writer_of(manager: SegmentManager) -> Writer
-    ensures { result ≡ writer_of manager }
-{
-    Writer {
-        max_segment_size: manager.max_segment_size,
-        entry_count: manager.entry_count,
-        first_lsn: manager.first_lsn,
-        last_lsn: manager.last_lsn,
+impl From<SegmentManager> for Writer {
+    ghost from_gives = { λ manager writer. writer ≡ writer_of manager };
+
+    fn from(manager: SegmentManager) -> Writer {
+        Writer {
+            max_segment_size: manager.max_segment_size,
+            entry_count: manager.entry_count,
+            first_lsn: manager.first_lsn,
+            last_lsn: manager.last_lsn,
+        }
     }
 }
 
@@ -58,16 +62,16 @@ fn open_answer(opening: Opening, used: &mut usize) -> OpenAnswer
     ensures { OpensAs opening used.old result used.new }
 {
     let answer = opening.answer;
-    let writer = writer_of(opening.manager);
+    let writer = Writer::from(opening.manager);
     match answer {
-        Opened::Refused(refusal) => OpenAnswer {
-            refusal: refusal.number(),
-            writer,
-        },
-        Opened::Used(after) => {
+        Ok(after) => {
             *used = after;
             OpenAnswer { refusal: 0, writer }
         }
+        Err(refusal) => OpenAnswer {
+            refusal: refusal.number(),
+            writer,
+        },
     }
 }
 
@@ -75,14 +79,9 @@ fn append_answer(appending: Appending, used: &mut usize) -> AppendAnswer
     ensures { AppendsAs appending used.old result used.new }
 {
     let answer = appending.answer;
-    let writer = writer_of(appending.manager);
+    let writer = Writer::from(appending.manager);
     match answer {
-        Appended::Refused(refusal) => AppendAnswer {
-            refusal: refusal.number(),
-            len: 0,
-            writer,
-        },
-        Appended::Written { used: after, len } => {
+        Ok(Appended { used: after, len }) => {
             *used = after;
             AppendAnswer {
                 refusal: 0,
@@ -90,6 +89,11 @@ fn append_answer(appending: Appending, used: &mut usize) -> AppendAnswer
                 writer,
             }
         }
+        Err(refusal) => AppendAnswer {
+            refusal: refusal.number(),
+            len: 0,
+            writer,
+        },
     }
 }
 
@@ -97,14 +101,14 @@ fn append_answer(appending: Appending, used: &mut usize) -> AppendAnswer
 pub extern "C" fn ringwal_new(max_segment_size: u64) -> Writer
     ensures { result ≡ writer_of (fresh max_segment_size) }
 {
-    writer_of(SegmentManager::new(max_segment_size))
+    Writer::from(SegmentManager::new(max_segment_size))
 }
 
 #[unsafe(no_mangle)]
 pub extern "C" fn ringwal_with_default_size() -> Writer
     ensures { result ≡ writer_of (fresh default_bound) }
 {
-    writer_of(SegmentManager::with_default_size())
+    Writer::from(SegmentManager::with_default_size())
 }
 
 #[unsafe(no_mangle)]
@@ -116,7 +120,8 @@ pub extern "C" fn ringwal_open(
 ) -> OpenAnswer
     ensures { opened result used.new directory.new ≡ open_for (open_of (manager_of writer) (length area.now) directory.old used.old) used.old }
 {
-    open_answer(manager_of(writer).open(area, directory, *used), used)
+    let opening = SegmentManager::from(writer).open(area, directory, *used);
+    open_answer(opening, used)
 }
 
 #[unsafe(no_mangle)]
@@ -128,7 +133,8 @@ pub extern "C" fn ringwal_rotate(
 ) -> OpenAnswer
     ensures { opened result used.new directory.new ≡ open_for (rotate_of (manager_of writer) (length area.now) directory.old used.old) used.old }
 {
-    open_answer(manager_of(writer).rotate(area, directory, *used), used)
+    let opening = SegmentManager::from(writer).rotate(area, directory, *used);
+    open_answer(opening, used)
 }
 
 #[unsafe(no_mangle)]
@@ -142,7 +148,7 @@ pub extern "C" fn ringwal_append_entry(
 ) -> AppendAnswer
     ensures { appended result used.new directory.new area.new ≡ append_for (append_entry_of (manager_of writer) area.old directory.old used.old lsn payload.now) used.old }
 {
-    let appending = manager_of(writer).append_entry(area, directory, *used, lsn, payload);
+    let appending = SegmentManager::from(writer).append_entry(area, directory, *used, lsn, payload);
     append_answer(appending, used)
 }
 
@@ -162,7 +168,7 @@ pub extern "C" fn ringwal_append(
 ) -> AppendAnswer
     ensures { appended result used.new directory.new area.new ≡ append_for (append_of (manager_of writer) area.old directory.old used.old lsn tx_id timestamp (asked kind key.now old_value.now new_value.now)) used.old }
 {
-    let appending = manager_of(writer).append(
+    let appending = SegmentManager::from(writer).append(
         area, directory, *used, lsn, kind, tx_id, timestamp, key, old_value, new_value,
     );
     append_answer(appending, used)

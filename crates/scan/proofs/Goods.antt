@@ -10,7 +10,7 @@ use Rattle.fields.proofs.Numbers.{bytes_drop, bytes_take}
 use Rattle.records.specs.Dense.{All}
 use Rattle.entry.specs.Decode.{bytes_at, end_of, decode_of}
 use Rattle.entry.specs.Parts.{tx_of}
-use Rattle.entry.specs.declared.decoding.Decoded.TheVariants as Decodes
+use Rattle.std.specs.declared.option.Option.TheVariants.{Some}
 use Rattle.entry.proofs.Places.{decode_tx}
 use Rattle.scan.specs.Step.{step_at}
 use Rattle.scan.specs.Read.{Good, read_from, read_segment}
@@ -57,7 +57,7 @@ pub record GoodIn (s : List ℕ) (g : Good) : Type 0 where
   pub end : end_of g.payload ≤ length s
   pub least : 20 ≤ g.payload.len
   pub used : ℕ
-  pub decoded : decode_of (bytes_at s g.payload) ≡ Decodes.Entry g.entry used
+  pub decoded : decode_of (bytes_at s g.payload) ≡ Some (record { entry = g.entry; used = used })
   pub tx : Bytes s → tx_of g.entry < 2 ^ 64
 
 pub run_each : (s : List ℕ) (at : ℕ) (gs : List Good) → Run s at gs → All (GoodIn s) gs

@@ -14,8 +14,9 @@ use Rattle.header.specs.declared.WalEntryHeader.{WalEntryHeader}
 use Rattle.entry.specs.Decode.{bytes_at, end_of, decode_of}
 use Rattle.entry.specs.declared.Place.{Place}
 use Rattle.entry.specs.declared.WalEntry.{WalEntry}
+use Rattle.std.specs.declared.option.Option.{Option}
+use Rattle.std.specs.declared.option.Option.TheVariants.{None, Some}
 use Rattle.entry.specs.declared.decoding.Decoded.{Decoded}
-use Rattle.entry.specs.declared.decoding.Decoded.TheVariants as Decodes
 use Rattle.entry.proofs.Places.{decode_within}
 use Rattle.scan.specs.Step.{judged_as, judge_of, step_as, step_from, step_at}
 use Rattle.scan.specs.declared.Step.{Step}
@@ -69,7 +70,7 @@ pub record EntryAt (s : List ℕ) (at : ℕ) (e : WalEntry) (p : Place) : Type 0
   pub end : end_of p ≤ length s
   pub least : 20 ≤ p.len
   pub used : ℕ
-  pub decoded : decode_of (bytes_at s p) ≡ Decodes.Entry e used
+  pub decoded : decode_of (bytes_at s p) ≡ Some (record { entry = e; used = used })
 
 abbrev Says : List ℕ → (at : ℕ) → Step → Type 0
 Says s at (Entry e p) = EntryAt s at e p
@@ -79,12 +80,12 @@ Says s at Torn = Unit {0}
 Says s at WrongChecksum = Unit {0}
 
 module _ (s : List ℕ) (at : ℕ) (p : Place) (start : p.start ≡ at + 13) (end : end_of p ≤ length s) (h : WalEntryHeader) where
-  decoded_says : (d : Decoded) → decode_of (bytes_at s p) ≡ d → Says s at (step_as p (judged_as d))
-  decoded_says Decodes.Refused e = record { start = start; end = end }
-  decoded_says (Decodes.Entry entry used) e =
+  decoded_says : (d : Option Decoded) → decode_of (bytes_at s p) ≡ d → Says s at (step_as p (judged_as d))
+  decoded_says None e = record { start = start; end = end }
+  decoded_says (Some d) e =
       let n : length (bytes_at s p) ≤ p.len = rw length-take (omega arith) in
-      let d = decode_within (bytes_at s p) entry used e in
-      record { start = start; end = end; least = omega arith; used = used; decoded = e }
+      let w = decode_within (bytes_at s p) d.entry d.used e in
+      record { start = start; end = end; least = omega arith; used = d.used; decoded = e }
 
   judged_says : Says s at (step_as p (judge_of h (bytes_at s p)))
   unfolding judge_of

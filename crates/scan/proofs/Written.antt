@@ -15,7 +15,7 @@ use Rattle.header.proofs.Laws.{header_length, header_of_back, header_of_valid}
 use Rattle.entry.specs.Decode.{bytes_at, decode_of}
 use Rattle.entry.specs.declared.Place.{Place}
 use Rattle.entry.specs.declared.WalEntry.{WalEntry}
-use Rattle.entry.specs.declared.decoding.Decoded.TheVariants as Decodes
+use Rattle.std.specs.declared.option.Option.TheVariants.{Some}
 use Rattle.scan.specs.Step.{judged_as, judge_of, step_as, step_at}
 use Rattle.scan.specs.Read.{on_read, read_from}
 use Rattle.scan.specs.declared.Step.TheVariants.{Entry, Torn}
@@ -44,7 +44,7 @@ module _ (before payload : List ℕ) (bytes : Bytes payload) (fits : length payl
       let k : (payload_at s (length before)).len ≤ length s - length before - 13 = rw header (omega arith) in
       from_whole s (length before) l k ∙ rw (header, there) (ap (step_as (place_behind before payload)) (judge_written payload))
 
-  pub read_whole : (e : WalEntry) (used : ℕ) (rest : List ℕ) → decode_of payload ≡ Decodes.Entry e used → read_from (before ++ (entry_bytes payload ++ rest)) (length before) ≡ on_read (Entry e (place_behind before payload)) (read_from (before ++ (entry_bytes payload ++ rest)) (length before + 13 + length payload))
+  pub read_whole : (e : WalEntry) (used : ℕ) (rest : List ℕ) → decode_of payload ≡ Some (record { entry = e; used = used }) → read_from (before ++ (entry_bytes payload ++ rest)) (length before) ≡ on_read (Entry e (place_behind before payload)) (read_from (before ++ (entry_bytes payload ++ rest)) (length before + 13 + length payload))
   read_whole e used rest d =
       read_entry (before ++ (entry_bytes payload ++ rest)) (length before) e (place_behind before payload) (rw d at (step_written rest))
 

@@ -1,29 +1,33 @@
 -- Document 01, "Recovery": what stands at an offset of a segment, one of five answers.
 -- Assumes nothing.
 use Rattle.std.specs.Prelude.{ℕ, ◌+◌, ◌-◌, cond, List, leb, ltb, eqb, length, take, drop}
+use Rattle.std.specs.declared.option.Option.{Option}
+use Rattle.std.specs.declared.option.Option.TheVariants.{None, Some}
+use Rattle.std.specs.declared.result.Result.{Result}
+use Rattle.std.specs.declared.result.Result.TheVariants.{Ok, Err}
 use Rattle.header.specs.Header.{header_at, valid_for}
 use Rattle.header.specs.declared.WalEntryHeader.{WalEntryHeader}
 use Rattle.entry.specs.Decode.{decode_of}
 use Rattle.entry.specs.declared.Place.{Place}
+use Rattle.entry.specs.declared.WalEntry.{WalEntry}
 use Rattle.entry.specs.declared.decoding.Decoded.{Decoded}
-use Rattle.entry.specs.declared.decoding.Decoded.TheVariants as Decodes
-use Rattle.scan.specs.declared.Judged.{Judged}
-use Rattle.scan.specs.declared.Judged.TheVariants as Judges
+use Rattle.scan.specs.declared.Damage.{Damage}
+use Rattle.scan.specs.declared.Damage.TheVariants as Damages
 use Rattle.scan.specs.declared.Step.{Step}
 use Rattle.scan.specs.declared.Step.TheVariants.{Entry, End, Torn, WrongChecksum, Undecodable}
 
-abbrev pub judged_as : Decoded → Judged
-judged_as Decodes.Refused = Judges.Undecodable
-judged_as (Decodes.Entry entry used) = Judges.Good entry
+abbrev pub judged_as : Option Decoded → Result WalEntry Damage
+judged_as None = Err Damages.Undecodable
+judged_as (Some decoded) = Ok decoded.entry
 
 -- a header with its payload: "a wrong checksum or undecodable payload". The version isn't tested.
-unfoldable pub judge_of : WalEntryHeader → List ℕ → Judged
-judge_of h payload = cond (valid_for h payload) (judged_as (decode_of payload)) Judges.WrongChecksum
+unfoldable pub judge_of : WalEntryHeader → List ℕ → Result WalEntry Damage
+judge_of h payload = cond (valid_for h payload) (judged_as (decode_of payload)) (Err Damages.WrongChecksum)
 
-abbrev pub step_as : Place → Judged → Step
-step_as p Judges.WrongChecksum = WrongChecksum
-step_as p Judges.Undecodable = Undecodable p
-step_as p (Judges.Good entry) = Entry entry p
+abbrev pub step_as : Place → Result WalEntry Damage → Step
+step_as p (Err Damages.WrongChecksum) = WrongChecksum
+step_as p (Err Damages.Undecodable) = Undecodable p
+step_as p (Ok entry) = Entry entry p
 
 -- s is what is left of a segment from the offset `at`: "fewer than 13 bytes left but at least 1 is a partial write; a
 -- length above what is left is a partial write"

@@ -5,19 +5,18 @@ ghost use Rattle.std.specs.Prelude.{◌≡◌, ◌-◌, ◌≤◌, leb, length};
 ghost use Rattle.entry.specs.Decode.{bytes_at, end_of};
 ghost use Rattle.scan.specs.Step.{judge_of, step_as, step_at};
 
-use entry::{Decoded, Place, WalEntry, WalEntryHeader};
+use entry::{Place, WalEntry, WalEntryHeader};
 
-// A header with its payload.
-#[derive(Clone, Copy)]
-pub enum Judged {
+// What is wrong with a payload and its header.
+#[derive(Clone, Copy, Debug, PartialEq, Eq)]
+pub enum Damage {
     WrongChecksum,
     Undecodable,
-    Good(WalEntry),
 }
 
 // What stands at an offset of a segment. A payload's place is in the segment. Behind an entry the next step is at its end;
 // the truncation scan goes on behind an undecodable payload too.
-#[derive(Clone, Copy)]
+#[derive(Clone, Copy, Debug, PartialEq, Eq)]
 pub enum Step {
     Entry { entry: WalEntry, payload: Place },
     End,
@@ -27,16 +26,16 @@ pub enum Step {
 }
 
 // The checksum first: it tells damage from a payload that was written so. The version isn't tested.
-pub fn judge(header: WalEntryHeader, payload: &[u8]) -> Judged
+pub fn judge(header: WalEntryHeader, payload: &[u8]) -> Result<WalEntry, Damage>
     ensures { result ≡ judge_of header payload.now }
 {
     if !header.validate(payload) {
-        return Judged::WrongChecksum;
+        return Err(Damage::WrongChecksum);
     }
-    let Decoded::Entry { entry, .. } = entry::decode(payload) else {
-        return Judged::Undecodable;
+    let Some(decoded) = entry::decode(payload) else {
+        return Err(Damage::Undecodable);
     };
-    Judged::Good(entry)
+    Ok(decoded.entry)
 }
 
 // The same where the payload stands, in the segment.
@@ -47,9 +46,9 @@ fn judge_at(segment: &[u8], header: WalEntryHeader, payload: Place) -> Step
     let start = payload.start;
     let end = payload.start + payload.len;
     match judge(header, &segment[start..end]) {
-        Judged::WrongChecksum => Step::WrongChecksum,
-        Judged::Undecodable => Step::Undecodable { payload },
-        Judged::Good(entry) => Step::Entry { entry, payload },
+        Ok(entry) => Step::Entry { entry, payload },
+        Err(Damage::WrongChecksum) => Step::WrongChecksum,
+        Err(Damage::Undecodable) => Step::Undecodable { payload },
     }
 }
 

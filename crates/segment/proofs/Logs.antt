@@ -1,9 +1,13 @@
 -- What an append leaves: the entry's bytes behind its segment's and every other segment as it was, or nothing changed at all.
 -- Assumes nothing.
-use Rattle.std.proofs.Common.{◌≡◌, ℕ, ◌+◌, ◌-◌, ◌<◌, ◌≤◌, Bool, true, false, List, [], ◌∷◌, ◌++◌, map, length, take, drop, sym, refl, ap, ◌∙◌, ◌⊎◌, ⊎_elim, arith, length-append, length-drop, length-take-le, take_at, le-leb}
+use Rattle.std.proofs.Common.{◌≡◌, ℕ, ◌+◌, ◌-◌, ◌<◌, ◌≤◌, Bool, true, false, List, [], ◌∷◌, ◌++◌, map, length, take, drop, sym, refl, ap, ◌∙◌, ⊎_elim, arith, length-append, length-drop, length-take-le, take_at, le-leb}
 use mathlib.Core.Bool.{false≢true}
 use mathlib.Core.Option.{Option, none, some}
 use lib.Seq.{sets, sets-eq, length-sets, take-append_seam}
+use Rattle.std.specs.declared.option.Option.TheVariants.{None}
+use Rattle.std.specs.declared.option.Option as Options
+use Rattle.std.specs.declared.result.Result.{Result}
+use Rattle.std.specs.declared.result.Result.TheVariants.{Ok, Err}
 use Rattle.fields.proofs.Cases.{case_b}
 use Rattle.fields.proofs.Stores.{sets_join, sets_front, take-sets, drop-sets}
 use Rattle.refusal.specs.Answer.{Answer, refused, accepted, by_answer, and_then, sound}
@@ -12,21 +16,20 @@ use Rattle.header.specs.Header.{header_of, header_bytes, entry_bytes}
 use Rattle.header.proofs.Laws.{header_length}
 use Rattle.payload.specs.Content.{Content, payload_of, well_formed}
 use Rattle.payload.specs.Encode.{Encoding, is_well_formed, encoding, put_of, encode_of}
-use Rattle.payload.specs.declared.Encoded.{Encoded}
-use Rattle.payload.specs.declared.Encoded.TheVariants as Encodes
+use Rattle.payload.specs.declared.EncodeError.{EncodeError}
+use Rattle.payload.specs.declared.EncodeError.TheVariants.{NotWellFormed, NoRoom}
 use Rattle.payload.proofs.Laws.{payload_most}
 use Rattle.directory.specs.Record.{records_of, end_of}
 use Rattle.directory.specs.Rule.{test_of, end_before, rule_from, after_record}
 use Rattle.directory.specs.declared.record.SegmentRecord.{SegmentRecord}
 use Rattle.directory.specs.declared.rule.Last.{Last}
-use Rattle.directory.specs.declared.rule.Last.TheVariants.{NoSegment}
 use Rattle.directory.proofs.Rules.{follows_says, rule_parts, last_of}
 use Rattle.directory.proofs.Sound.{sound_says}
-use Rattle.segment.specs.Answer.{Added}
 use Rattle.plan.specs.Plan.{last_used, new_segment, append_test_of, plan_of, plan_append_of}
 use Rattle.directory.specs.Image.{segment_bytes}
 use Rattle.segment.specs.Writing.{Log, refused_with, written_by, append_entry_of, encoded_of, append_of}
 use Rattle.segment.specs.declared.SegmentManager.{SegmentManager}
+use Rattle.segment.specs.declared.Appended.{Appended}
 use Rattle.plan.specs.declared.Write.{Write}
 use Rattle.plan.proofs.Plans.{IsBehind, last_is, plan_says, test_says, append_says}
 
@@ -49,10 +52,10 @@ PayloadIs none tx time bytes = ⊥
 PayloadIs (some content) tx time bytes = (well_formed content ≡ true) × (bytes ≡ payload_of tx time content)
 
 -- what an answer of `encode` says where the target has room for every well-formed entry
-abbrev pub EncodedAs : Encoded → Option Content → (tx time : ℕ) → List ℕ → Type 0
-EncodedAs (Encodes.Written n) content tx time target = (n ≤ length target) × PayloadIs content tx time (take n target)
-EncodedAs Encodes.NotWellFormed content tx time target = is_well_formed content ≡ false
-EncodedAs Encodes.NoRoom content tx time target = ⊥
+abbrev pub EncodedAs : Result ℕ EncodeError → Option Content → (tx time : ℕ) → List ℕ → Type 0
+EncodedAs (Ok n) content tx time target = (n ≤ length target) × PayloadIs content tx time (take n target)
+EncodedAs (Err NotWellFormed) content tx time target = is_well_formed content ≡ false
+EncodedAs (Err NoRoom) content tx time target = ⊥
 
 put_says : (content : Content) (tx time : ℕ) (before : List ℕ) → 612 ≤ length before → well_formed content ≡ true → EncodedAs (put_of (payload_of tx time content) before).answer (some content) tx time (put_of (payload_of tx time content) before).target
 unfolding put_of
@@ -61,7 +64,7 @@ put_says content tx time before h e =
     let l : length p ≤ length before = omega (arith, payload_most tx time content e) in
     rw (le-leb (length p) (length before) l, length-sets, sets_front before p l, take-append_seam) (l, (e, refl))
 
-pub encode_says : (content : Option Content) (tx time : ℕ) (before after : List ℕ) (r : Encoded) → 612 ≤ length before → encoding r after ≡ encode_of content tx time before → EncodedAs r content tx time after
+pub encode_says : (content : Option Content) (tx time : ℕ) (before after : List ℕ) (r : Result ℕ EncodeError) → 612 ≤ length before → encoding r after ≡ encode_of content tx time before → EncodedAs r content tx time after
 unfolding encode_of
 encode_says content tx time before after r h e =
     let a : r ≡ (encode_of content tx time before).answer = ap (λ (x : Encoding). x.answer) e in
@@ -72,11 +75,13 @@ encode_says content tx time before after r h e =
     says none = refl
     says (some content) = case_b (well_formed content) (λ q. rw q (put_says content tx time before h q)) (λ q. rw q q)
 
--- any answer but the first is that of an entry that is not well-formed
-pub encode_refuses : (content : Option Content) (tx time : ℕ) (before after : List ℕ) (r : Encoded) → 612 ≤ length before → encoding r after ≡ encode_of content tx time before → (r ≡ Encodes.NotWellFormed) ⊎ (r ≡ Encodes.NoRoom) → is_well_formed content ≡ false
-encode_refuses content tx time before after r h e k =
-    let s = encode_says content tx time before after r h e in
-    ⊎_elim (λ q. rw q at s) (λ q. absurd (rw q at s)) k
+-- an error is that of an entry that is not well-formed
+pub encode_refuses : (content : Option Content) (tx time : ℕ) (before after : List ℕ) (r : Result ℕ EncodeError) (why : EncodeError) → 612 ≤ length before → encoding r after ≡ encode_of content tx time before → r ≡ Err why → is_well_formed content ≡ false
+encode_refuses content tx time before after r why h e k = told why (rw k at (encode_says content tx time before after r h e))
+  where
+    told : (why : EncodeError) → EncodedAs (Err why) content tx time after → is_well_formed content ≡ false
+    told NotWellFormed s = s
+    told NoRoom s = absurd s
 
 module _ (m : SegmentManager) (area d : List ℕ) (used lsn tx time : ℕ) where
   -- the entry call is the raw call on the entry's encoding
@@ -107,7 +112,7 @@ image_kept area bytes at r h =
     rw (e, drop-sets r.start area bytes (at - r.start)) (take-sets r.length (drop r.start area) bytes (at - r.start) (omega arith))
 
 -- the last end is the highest
-last_over : (n : ℕ) (last : Last) (rs : List SegmentRecord) → rule_from n last rs ≡ true → end_before last ≤ end_before (last_of last rs)
+last_over : (n : ℕ) (last : Options.Option Last) (rs : List SegmentRecord) → rule_from n last rs ≡ true → end_before last ≤ end_before (last_of last rs)
 unfolding rule_from last_of
 last_over n last [] e = omega arith
 last_over n last (r ∷ rs) e =
@@ -116,7 +121,7 @@ last_over n last (r ∷ rs) e =
     omega (arith, last_over n (after_record r) rs p.1)
 
 -- so a store at or after it leaves the bytes of every segment
-images_kept : (n : ℕ) (last : Last) (rs : List SegmentRecord) (area bytes : List ℕ) (at : ℕ) → rule_from n last rs ≡ true → end_before (last_of last rs) ≤ at → map (segment_bytes (sets area at bytes)) rs ≡ map (segment_bytes area) rs
+images_kept : (n : ℕ) (last : Options.Option Last) (rs : List SegmentRecord) (area bytes : List ℕ) (at : ℕ) → rule_from n last rs ≡ true → end_before (last_of last rs) ≤ at → map (segment_bytes (sets area at bytes)) rs ≡ map (segment_bytes area) rs
 unfolding rule_from last_of
 images_kept n last [] area bytes at e h = refl
 images_kept n last (r ∷ rs) area bytes at e h =
@@ -159,7 +164,7 @@ module _ (bound : ℕ) (area d : List ℕ) (used : ℕ) (payload : List ℕ) (w 
   images_old e h =
       let at : w.at ≡ end_of (last_used d used) =
       ⊎_elim (λ b. rw b.write) (λ r. rw r.behind.write (omega arith)) (plan_says bound (length area) d used (length payload) w p) in
-      images_kept (length area) NoSegment (records_of used d) area (entry_bytes payload) w.at (sound_says (length area) d used e).rule
+      images_kept (length area) None (records_of used d) area (entry_bytes payload) w.at (sound_says (length area) d used e).rule
       (rw (last_is d used h) (omega arith))
 
 -- ---- accepted and refused
@@ -172,7 +177,7 @@ pub record Accepts (m : SegmentManager) (area d : List ℕ) (used lsn : ℕ) (pa
   pub log : append_entry_of m area d used lsn payload ≡ written_by w m area d lsn payload
 
 module _ (m : SegmentManager) (area d : List ℕ) (used lsn : ℕ) where
-  pub entry_accepted : (payload : List ℕ) (x : Added) → (append_entry_of m area d used lsn payload).answer ≡ accepted x → (w : Write) × Accepts m area d used lsn payload w
+  pub entry_accepted : (payload : List ℕ) (x : Appended) → (append_entry_of m area d used lsn payload).answer ≡ accepted x → (w : Write) × Accepts m area d used lsn payload w
   unfolding append_entry_of
   entry_accepted payload x e =
       by_cases (plan_append_of m.max_segment_size (length area) d used (length payload)) (λ n q. never_both (rw q at e)) (λ w q. did w q)
@@ -184,7 +189,7 @@ module _ (m : SegmentManager) (area d : List ℕ) (used lsn : ℕ) where
           (w, record { sounds = s.0; some = s.1; plan = p.1; log = rw q })
 
   -- "Every refusal leaves the directory, area, writer state .. unchanged."
-  abbrev unchanged : Answer Added → Log
+  abbrev unchanged : Answer Appended → Log
   unchanged answer = record { answer = answer; manager = m; directory = d; area = area }
 
   pub entry_refused : (payload : List ℕ) (number : ℕ) → (append_entry_of m area d used lsn payload).answer ≡ refused number → append_entry_of m area d used lsn payload ≡ refused_with number m area d
@@ -205,7 +210,7 @@ module _ (m : SegmentManager) (area d : List ℕ) (used lsn : ℕ) where
       (λ q. by_cases (append_test_of (length area) d used) (λ k t. rw t) (λ x t. absurd (n (rw (t, q)))))
 
   -- what the entry call accepts is well-formed
-  pub append_accepted : (tx time : ℕ) (content : Option Content) (x : Added) → (append_of m area d used lsn tx time content).answer ≡ accepted x → is_well_formed content ≡ true
+  pub append_accepted : (tx time : ℕ) (content : Option Content) (x : Appended) → (append_of m area d used lsn tx time content).answer ≡ accepted x → is_well_formed content ≡ true
   unfolding append_of
   append_accepted tx time content x e =
       by_cases (and_then (append_test_of (length area) d used) (λ _. encoded_of tx time content)) (λ n q. never_both (rw q at e))

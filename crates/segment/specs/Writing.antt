@@ -3,7 +3,8 @@
 use Rattle.std.specs.Prelude.{ℕ, ◌+◌, ◌*◌, ◌%◌, ◌^◌, Bool, cond, List, length, ◌==◌}
 use Rattle.std.proofs.Math.Option.{Option}
 use Rattle.std.proofs.lemmas.List.Edits.{sets}
-use Rattle.refusal.specs.Answer.{Answer, refused, accepted, by_answer, and_then}
+use Rattle.std.specs.declared.result.Result.TheVariants.{Err}
+use Rattle.refusal.specs.Answer.{Answer, refused, accepted, by_answer, and_then, answer_of}
 use Rattle.refusal.specs.declared.Refusal.{Refusal}
 use Rattle.header.specs.Header.{entry_bytes}
 use Rattle.payload.specs.Content.{Content}
@@ -12,10 +13,9 @@ use Rattle.directory.specs.Record.{record_bytes}
 use Rattle.directory.specs.declared.record.SegmentRecord.{SegmentRecord}
 use Rattle.plan.specs.Plan.{new_segment_of, append_test_of, plan_append_of}
 use Rattle.plan.specs.declared.Write.{Write}
-use Rattle.segment.specs.Answer.{Added, opened_as, appended_as}
 use Rattle.segment.specs.declared.SegmentManager.{SegmentManager}
 use Rattle.segment.specs.declared.Opening.{Opening}
-use Rattle.segment.specs.declared.Appended.TheVariants as Appends
+use Rattle.segment.specs.declared.Appended.{Appended}
 use Rattle.segment.specs.declared.Appending.{Appending}
 
 -- "A new segment sets all three to 0"
@@ -28,6 +28,7 @@ default_bound = 49_152
 
 -- ---- opening and rotating
 
+-- the used count after an opening or a rotation, or the refusal; the state, and the directory
 pub record OpenedLog : Type 0 where
   pub answer : Answer ℕ
   pub manager : SegmentManager
@@ -35,7 +36,7 @@ pub record OpenedLog : Type 0 where
 
 -- what a call gave back, with the directory that it left
 abbrev pub opened : Opening → List ℕ → OpenedLog
-opened r directory = record { answer = opened_as r.answer; manager = r.manager; directory = directory }
+opened r directory = record { answer = answer_of r.answer; manager = r.manager; directory = directory }
 
 -- "Every refusal leaves the directory, area, writer state .. unchanged."
 abbrev pub open_by : Answer SegmentRecord → SegmentManager → List ℕ → (used : ℕ) → OpenedLog
@@ -57,8 +58,9 @@ rotate_of m area directory used = open_by (new_segment_of area directory used) m
 
 -- ---- appending
 
+-- the used count after an append and the bytes written, header included, or the refusal; the state, and both buffers
 pub record Log : Type 0 where
-  pub answer : Answer Added
+  pub answer : Answer Appended
   pub manager : SegmentManager
   pub directory : List ℕ
   pub area : List ℕ
@@ -66,11 +68,11 @@ pub record Log : Type 0 where
 -- what a call gave back, with the area and the directory that it left
 abbrev pub appended : Appending → List ℕ → List ℕ → Log
 appended r area directory =
-    record { answer = appended_as r.answer; manager = r.manager; directory = directory; area = area }
+    record { answer = answer_of r.answer; manager = r.manager; directory = directory; area = area }
 
 -- "Every refusal leaves the directory, area, writer state .. unchanged."
 abbrev pub refusing : SegmentManager → Refusal → Appending
-refusing m refusal = record { manager = m; answer = Appends.Refused refusal }
+refusing m refusal = record { manager = m; answer = Err refusal }
 
 abbrev pub refused_with : (number : ℕ) → SegmentManager → List ℕ → List ℕ → Log
 refused_with number m area directory = record { answer = refused number; manager = m; directory = directory; area = area }

@@ -10,10 +10,9 @@ ghost use Rattle.directory.specs.declared.lent.Lent.TheVariants.{Directory};
 ghost use Rattle.plan.specs.Plan.{append_test_of};
 ghost use Rattle.segment.specs.Writing.{fresh, default_bound, counted, opened, open_of, rotate_of, appended, refusing, active_after, written_by, append_entry_of, append_of};
 
-use directory::rule::Tested;
 use header::WalEntryHeader;
-use payload::{Encoded, PAYLOAD_MOST};
-use plan::{NewSegment, Plan, Write};
+use payload::PAYLOAD_MOST;
+use plan::Write;
 use refusal::Refusal;
 
 #[derive(Clone, Copy)]
@@ -25,40 +24,33 @@ pub struct SegmentManager {
     pub last_lsn: u64,
 }
 
-// The used count after the call.
-#[derive(Clone, Copy)]
-pub enum Opened {
-    Refused(Refusal),
-    Used(usize),
-}
-
+// The state and the used count after the call.
 #[derive(Clone, Copy)]
 pub struct Opening {
     pub manager: SegmentManager,
-    pub answer: Opened,
+    pub answer: Result<usize, Refusal>,
 }
 
 // The used count after the call, and the bytes written, header included.
 #[derive(Clone, Copy)]
-pub enum Appended {
-    Refused(Refusal),
-    Written { used: usize, len: usize },
+pub struct Appended {
+    pub used: usize,
+    pub len: usize,
 }
 
 #[derive(Clone, Copy)]
 pub struct Appending {
     pub manager: SegmentManager,
-    pub answer: Appended,
+    pub answer: Result<Appended, Refusal>,
 }
 
 // 3, unless 1 or 2 applies: the lowest number is given.
 fn not_well_formed(area_len: usize, directory: &[u8], used: usize) -> Refusal
     ensures { number_of result ≡ by_answer (append_test_of area_len directory.now used) (λ number. number) (λ _. 3) }
 {
-    match plan::append_test(area_len, directory, used) {
-        Tested::Refused(refusal) => refusal,
-        Tested::Sound => Refusal::InvalidEntry,
-    }
+    plan::append_test(area_len, directory, used)
+        .err()
+        .unwrap_or(Refusal::InvalidEntry)
 }
 
 impl SegmentManager {
@@ -86,15 +78,15 @@ impl SegmentManager {
         ensures { opened result directory.new ≡ open_of self (length area.now) directory.old used }
     {
         match plan::new_segment(area.len(), directory, used) {
-            NewSegment::Refused(refusal) => Opening {
+            Err(refusal) => Opening {
                 manager: self,
-                answer: Opened::Refused(refusal),
+                answer: Err(refusal),
             },
-            NewSegment::Record(segment) => {
+            Ok(segment) => {
                 directory::record::put_record(directory, used, segment);
                 Opening {
                     manager: SegmentManager::new(self.max_segment_size),
-                    answer: Opened::Used(used + 1),
+                    answer: Ok(used + 1),
                 }
             }
         }
@@ -113,7 +105,7 @@ impl SegmentManager {
     {
         Appending {
             manager: self,
-            answer: Appended::Refused(refusal),
+            answer: Err(refusal),
         }
     }
 
@@ -122,22 +114,26 @@ impl SegmentManager {
         ensures { result ≡ active_after rotated self }
     {
         if rotated {
-            return SegmentManager::new(self.max_segment_size);
+            SegmentManager::new(self.max_segment_size)
+        } else {
+            self
         }
-        self
     }
 
     // One entry more in the active segment. A first number of 0 counts as unset.
     fn counted(self, lsn: u64) -> Self
         ensures { result ≡ counted self lsn }
     {
-        let mut next = self;
-        next.entry_count = std::num::wrapping_add_u64(self.entry_count, 1);
-        next.last_lsn = lsn;
-        if self.first_lsn == 0 {
-            next.first_lsn = lsn;
+        SegmentManager {
+            entry_count: self.entry_count.wrapping_add(1),
+            first_lsn: if self.first_lsn == 0 {
+                lsn
+            } else {
+                self.first_lsn
+            },
+            last_lsn: lsn,
+            ..self
         }
-        next
     }
 
     // Header and payload at the place, and the record that now holds them.
@@ -157,13 +153,12 @@ impl SegmentManager {
         fields::bytes::copy(area, at, &bytes);
         fields::bytes::copy(area, at + WalEntryHeader::SIZE, data);
         directory::record::put_record(directory, w.k, w.segment);
-        let answer = Appended::Written {
-            used: w.k + 1,
-            len: WalEntryHeader::SIZE + data.len(),
-        };
         Appending {
             manager: self.active_after(w.rotated).counted(lsn),
-            answer,
+            answer: Ok(Appended {
+                used: w.k + 1,
+                len: WalEntryHeader::SIZE + data.len(),
+            }),
         }
     }
 
@@ -185,8 +180,8 @@ impl SegmentManager {
             used,
             data.len(),
         ) {
-            Plan::Refused(refusal) => self.refused(refusal),
-            Plan::Write(w) => self.write(area, directory, w, lsn, data),
+            Err(refusal) => self.refused(refusal),
+            Ok(w) => self.write(area, directory, w, lsn, data),
         }
     }
 
@@ -209,10 +204,8 @@ impl SegmentManager {
         // Every well-formed entry's payload has room: `NoRoom` is never answered.
         let mut data = [0u8; PAYLOAD_MOST];
         match payload::encode(kind, tx_id, timestamp, key, old_value, new_value, &mut data) {
-            Encoded::Written(n) => self.append_entry(area, directory, used, lsn, &data[..n]),
-            Encoded::NotWellFormed | Encoded::NoRoom => {
-                self.refused(not_well_formed(area.len(), directory, used))
-            }
+            Ok(n) => self.append_entry(area, directory, used, lsn, &data[..n]),
+            Err(_) => self.refused(not_well_formed(area.len(), directory, used)),
         }
     }
 }

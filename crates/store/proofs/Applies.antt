@@ -9,7 +9,8 @@ use Rattle.entry.specs.Decode.{decode_of, content_at}
 use Rattle.std.proofs.Common.{◌⊎◌, inl, inr}
 use Rattle.entry.specs.declared.WalEntry.{WalEntry}
 use Rattle.entry.specs.declared.WalEntry.TheVariants.{Commit, Abort}
-use Rattle.entry.specs.declared.decoding.Decoded.TheVariants as Decodes
+use Rattle.std.specs.declared.option.Option.TheVariants.{None, Some}
+use Rattle.entry.specs.declared.decoding.Decoded.{Decoded}
 use Rattle.refusal.specs.Answer.{accepted}
 use Rattle.refusal.proofs.Answers.{same_values}
 use Rattle.lists.specs.declared.entries.EntryRecord.{EntryRecord}
@@ -32,12 +33,12 @@ slice_is : (area : List ℕ) (e : EntryRecord) → slice area e ≡ payload_in a
 unfolding payload_in
 slice_is area e = let n : e.place + e.len - e.place ≡ e.len = omega arith in rw n
 
-pub effect_read : (area : List ℕ) (e : EntryRecord) (w : WalEntry) (used : ℕ) → decode_of (slice area e) ≡ Decodes.Entry w used → effect_in area e ≡ effect_of (content_at (slice area e) w)
+pub effect_read : (area : List ℕ) (e : EntryRecord) (d : Decoded) → decode_of (slice area e) ≡ Some d → effect_in area e ≡ effect_of (content_at (slice area e) d.entry)
 unfolding effect_in
-effect_read area e w used d = rw (slice_is area e) (rw (rw (slice_is area e) at d))
+effect_read area e d s = rw (slice_is area e) (rw (rw (slice_is area e) at s))
 
 -- a listed entry decodes
-pub not_refused : (area : List ℕ) (e : EntryRecord) → EntryIn area e → decode_of (slice area e) ≡ Decodes.Refused → ⊥
+pub not_refused : (area : List ℕ) (e : EntryRecord) → EntryIn area e → decode_of (slice area e) ≡ None → ⊥
 not_refused area e i d = let f = rw (← slice_is area e, d) at i.decodes in let z : ◌≡◌ {A = ℕ} 0 1 = cc in omega arith
 
 -- markers change nothing

@@ -10,7 +10,7 @@ use Prim.Native.Nat.{ℕ}
 use native.Mathlib.Omega.{arith}
 use lib.Dec.{eqb}
 use Rattle.fields.proofs.Cases.{case_b}
-use Rattle.fields.specs.declared.bytes.Ordering.TheVariants.{Less}
+use Rattle.std.specs.declared.cmp.Ordering.TheVariants.{Less}
 use Rattle.records.specs.Sorted.{itself, compare_numbers, Before, Ascends}
 use Rattle.records.specs.Dense.{All}
 use Rattle.records.proofs.Sorted.{numbers_order, rest_behind, member_record, record_member}

@@ -9,7 +9,10 @@ use native.Mathlib.Omega.{arith}
 use lib.ListN.{length}
 use Rattle.fields.specs.Le.{Bytes}
 use Rattle.fields.proofs.Cases.{case_b}
-use Rattle.refusal.specs.Answer.{Answer, refused, accepted, by_answer}
+use Rattle.std.specs.declared.result.Result.{Result}
+use Rattle.std.specs.declared.result.Result.TheVariants.{Ok}
+use Rattle.refusal.specs.declared.Refusal.{Refusal}
+use Rattle.refusal.specs.Answer.{Answer, refused, accepted, by_answer, answer_of}
 use Rattle.refusal.proofs.Answers.{never_both, same_number, same_values}
 use Rattle.directory.specs.Lent.{fits_of}
 use Rattle.directory.specs.Record as Directory
@@ -27,13 +30,10 @@ use Rattle.recovery.specs.Log.{LogRead, read_log}
 use Rattle.recovery.specs.Payload.{EntryIn}
 use Rattle.recovery.specs.Recover.{Recovering, recovering, recover_of, stats_of, recovered_of}
 use Rattle.recovery.specs.declared.Recovered.{Recovered}
-use Rattle.recovery.specs.declared.Recovery.TheVariants as Recovers
 use Rattle.recovery.proofs.Accepts.{Accepted, recover_accepted, sound_fits}
 use Rattle.recovery.proofs.EntriesIn.{log_in}
 use Rattle.table.specs.Row.{Row}
 use Rattle.table.specs.Table.{lookup, table_of, Held}
-use Rattle.table.specs.Change.{set_as}
-use Rattle.table.specs.declared.Set.{Set}
 use Rattle.table.proofs.Tables.{none_held}
 use Rattle.store.specs.Order.{replayed}
 use Rattle.store.specs.Change.{run_of}
@@ -65,7 +65,7 @@ module _ (area : List ℕ) (E T : ℕ) (xs : List EntryRecord) (fit : All EntryF
       }
 
 -- what recovery answered and left
-module _ (area directory : List ℕ) (used : ℕ) (entries transactions es ts : List ℕ) (v : Recovered) (bytes : Bytes area) (e : recovering (Recovers.Done v) es ts ≡ recover_of area directory used entries transactions) where
+module _ (area directory : List ℕ) (used : ℕ) (entries transactions es ts : List ℕ) (v : Recovered) (bytes : Bytes area) (e : recovering (Ok v) es ts ≡ recover_of area directory used entries transactions) where
   abbrev log : LogRead
   log = read_log area (Directory.records_of used directory)
 
@@ -98,17 +98,17 @@ module _ (area directory : List ℕ) (used : ℕ) (entries transactions es ts : 
 
   -- ---- the end of a call
 
-  concludes : (a : Answer ℕ) (x : Answer (List Row)) (es' ts' t : List ℕ) (room : ℕ) → length t ≡ room → by_answer a (λ number. refused number) (λ n. ran n t) ≡ ran_in room x → by_answer a (λ number. refused_empty number (length es') (length ts') (length t)) (λ _. replaying (Recovers.Done v) es' ts' t) ≡ replay_after x (recovering (Recovers.Done v) es' ts') room
+  concludes : (a : Answer ℕ) (x : Answer (List Row)) (es' ts' t : List ℕ) (room : ℕ) → length t ≡ room → by_answer a (λ number. refused number) (λ n. ran n t) ≡ ran_in room x → by_answer a (λ number. refused_empty number (length es') (length ts') (length t)) (λ _. replaying (Ok v) es' ts' t) ≡ replay_after x (recovering (Ok v) es' ts') room
   concludes (refused m) (refused n) es' ts' t room l r = rw (l, same_number r)
   concludes (refused m) (accepted rs) es' ts' t room l r = never_both r
   concludes (accepted n) (refused m) es' ts' t room l r = never_both (sym r)
   concludes (accepted n) (accepted rs) es' ts' t room l r =
       let f : t ≡ table_of room rs = ap (λ (x : Ran). x.table) (same_values r) in rw f
 
-  pub replays : (table : List ℕ) (set : Set) (es' ts' t : List ℕ) → RanIs area es v.entries ts (length table) set es' ts' t → length t ≡ length table → concluded_by set v es' ts' t ≡ replay_by (recover_of area directory used entries transactions) log area table
+  pub replays : (table : List ℕ) (set : Result ℕ Refusal) (es' ts' t : List ℕ) → RanIs area es v.entries ts (length table) set es' ts' t → length t ≡ length table → concluded_by set v es' ts' t ≡ replay_by (recover_of area directory used entries transactions) log area table
   replays table set es' ts' t r l =
       rw (← e, r.entries_stay, r.transactions_stay)
-      (concludes (set_as set) (run_of (length table / 320) area (replayed log.entries) []) es ts t (length table) l (rw read_back at r.runs))
+      (concludes (answer_of set) (run_of (length table / 320) area (replayed log.entries) []) es ts t (length table) l (rw read_back at r.runs))
 
 -- ---- an accepted replay
 

@@ -4,6 +4,9 @@ use mathlib.Core.Path.{◌≡◌, refl, sym, ap, ◌∙◌}
 use mathlib.Core.List.{List}
 use Prim.Native.Nat.{ℕ, ◌/◌}
 use lib.ListN.{length, replicate}
+use Rattle.std.specs.declared.result.Result.{Result}
+use Rattle.std.specs.declared.result.Result.TheVariants.{Ok, Err}
+use Rattle.refusal.specs.declared.Refusal.{Refusal}
 use Rattle.refusal.specs.Answer.{Answer, refused, accepted, by_answer, and_then}
 use Rattle.refusal.proofs.Answers.{never_both, same_values}
 use Rattle.records.specs.Dense.{records_of}
@@ -11,8 +14,6 @@ use Rattle.records.proofs.Dense.{length_read, dense_none, records_back}
 use Rattle.table.specs.Row.{Row, row_bytes, row_at, RowFits}
 use Rattle.table.specs.Table.{table_of, Held}
 use Rattle.table.specs.Change.{Changed, changing, result_in}
-use Rattle.table.specs.declared.Set.{Set}
-use Rattle.table.specs.declared.Set.TheVariants as Sets
 use Rattle.table.proofs.Rows.{length_row, row_back}
 use Rattle.table.proofs.Tables.{none_held, table_length}
 use Rattle.store.specs.Change.{changed_by}
@@ -39,7 +40,7 @@ pub record Went (room : ℕ) (x : Answer (List Row)) (n : ℕ) (t : List ℕ) : 
   pub tabled : Tabled t n
   pub room_is : length t ≡ room
 
-pub went : (room : ℕ) (x : Answer (List Row)) → ((new : List Row) → x ≡ accepted new → Held room new) → (r : Set) (n : ℕ) (t : List ℕ) → r ≡ Sets.Rows n → ran_to r t ≡ ran_in room x → Went room x n t
+pub went : (room : ℕ) (x : Answer (List Row)) → ((new : List Row) → x ≡ accepted new → Held room new) → (r : Result ℕ Refusal) (n : ℕ) (t : List ℕ) → r ≡ Ok n → ran_to r t ≡ ran_in room x → Went room x n t
 went room (refused number) held r n t e a = never_both (sym (rw e at a))
 went room (accepted new) held r n t e a =
     let h = held new refl in
@@ -51,11 +52,9 @@ went room (accepted new) held r n t e a =
     record { rows_are = rw back; tabled = record { is = rw (back, l) table; held = rw (back, l) h }; room_is = l }
 
 -- a part that gave no rows
-pub stopped : (room : ℕ) (x : Answer (List Row)) (go : List Row → Answer (List Row)) (r : Set) (t : List ℕ) → ((m : ℕ) → r ≡ Sets.Rows m → ⊥) → ran_to r t ≡ ran_in room x → ran_to r t ≡ ran_in room (and_then x go)
-stopped room (refused number) go r t k e = e
-stopped room (accepted new) go Sets.TooLong t k e = never_both e
-stopped room (accepted new) go Sets.Full t k e = never_both e
-stopped room (accepted new) go (Sets.Rows n) t k e = absurd (k n refl)
+pub stopped : (room : ℕ) (x : Answer (List Row)) (go : List Row → Answer (List Row)) (refusal : Refusal) (t : List ℕ) → ran_to (Err refusal) t ≡ ran_in room x → ran_to (Err refusal) t ≡ ran_in room (and_then x go)
+stopped room (refused number) go refusal t e = e
+stopped room (accepted new) go refusal t e = never_both e
 
 -- ---- one entry
 
@@ -66,7 +65,7 @@ result_ran : (room : ℕ) (old : List Row) (x : Answer (List Row)) → ran_of (r
 result_ran room old (refused number) = refl
 result_ran room old (accepted new) = refl
 
-pub change_ran : (room : ℕ) (table : List ℕ) (n : ℕ) (x : Effect) (r : Set) (t : List ℕ) → Tabled table n → length table ≡ room → changing r t ≡ change_of x table n → ran_to r t ≡ ran_in room (changed_by (room / 320) x (rows_in n table))
+pub change_ran : (room : ℕ) (table : List ℕ) (n : ℕ) (x : Effect) (r : Result ℕ Refusal) (t : List ℕ) → Tabled table n → length table ≡ room → changing r t ≡ change_of x table n → ran_to r t ≡ ran_in room (changed_by (room / 320) x (rows_in n table))
 change_ran room table n x r t tabled l a =
     let rs = rows_in n table in
     let h : Held room rs = rw l at tabled.held in

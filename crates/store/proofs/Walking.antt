@@ -19,8 +19,9 @@ use Rattle.refusal.specs.Answer.{Answer, accepted, and_then}
 use Rattle.table.specs.Row.{Row}
 use Rattle.table.specs.Table.{Held}
 use Rattle.table.specs.Change.{changing}
-use Rattle.table.specs.declared.Set.{Set}
-use Rattle.table.specs.declared.Set.TheVariants as Sets
+use Rattle.std.specs.declared.result.Result.{Result}
+use Rattle.std.specs.declared.result.Result.TheVariants.{Ok, Err}
+use Rattle.refusal.specs.declared.Refusal.{Refusal}
 use Rattle.store.specs.Change.{changed_by, run_of}
 use Rattle.store.specs.Apply.{change_of}
 use Rattle.store.specs.Effect.{effect_in}
@@ -90,7 +91,7 @@ module _ (area entries transactions : List ℕ) (l : Linked area entries transac
     unfolding run_of
     turn_runs records rs = rw turn_walks
 
-  module _ (number : ℕ) (table₀ : List ℕ) (n₀ link : ℕ) (table : List ℕ) (n : ℕ) (pos : 0 < link) (w : Walking area entries number table₀ n₀ link table n) (e : EntryRecord) (is : e ≡ entry_record_at (drop (32 * (link - 1)) entries)) (r : Set) (t : List ℕ) (a : changing r t ≡ change_of (effect_in area e) table n) where
+  module _ (number : ℕ) (table₀ : List ℕ) (n₀ link : ℕ) (table : List ℕ) (n : ℕ) (pos : 0 < link) (w : Walking area entries number table₀ n₀ link table n) (e : EntryRecord) (is : e ≡ entry_record_at (drop (32 * (link - 1)) entries)) (r : Result ℕ Refusal) (t : List ℕ) (a : changing r t ≡ change_of (effect_in area e) table n) where
     abbrev step : Answer (List Row)
     step = changed_by (length table₀ / 320) (effect_in area e) (rows_in n table)
 
@@ -103,7 +104,7 @@ module _ (area entries transactions : List ℕ) (l : Linked area entries transac
     runs : run_of (length table₀ / 320) area (from_link number link (entries_in entries)) (rows_in n table) ≡ and_then step (run_of (length table₀ / 320) area (from_link number (spare_at 32 25 entries (link - 1)) (entries_in entries)))
     runs = rw is (turn_runs number link pos w.leads (length table₀ / 320) (rows_in n table))
 
-    pub walking_goes : (m : ℕ) → r ≡ Sets.Rows m → (next : ℕ) → next ≡ spare_at 32 25 entries (link - 1) → Walking area entries number table₀ n₀ next t m
+    pub walking_goes : (m : ℕ) → r ≡ Ok m → (next : ℕ) → next ≡ spare_at 32 25 entries (link - 1) → Walking area entries number table₀ n₀ next t m
     walking_goes m q next f =
         let g = went (length table₀) step step_held r m t q ran_step in
         record {
@@ -113,13 +114,13 @@ module _ (area entries transactions : List ℕ) (l : Linked area entries transac
           room = g.room_is;
         }
 
-    pub walking_stops : ((m : ℕ) → r ≡ Sets.Rows m → ⊥) → ran_to r t ≡ ran_in (length table₀) (run_of (length table₀ / 320) area (entries_of number (entries_in entries)) (rows_in n₀ table₀))
-    walking_stops k =
-        stopped (length table₀) step _ r t k ran_step ∙ ap (ran_in (length table₀)) (sym runs ∙ w.same)
+    pub walking_stops : (refusal : Refusal) → r ≡ Err refusal → ran_to (Err refusal) t ≡ ran_in (length table₀) (run_of (length table₀ / 320) area (entries_of number (entries_in entries)) (rows_in n₀ table₀))
+    walking_stops refusal q =
+        stopped (length table₀) step _ refusal t (rw q at ran_step) ∙ ap (ran_in (length table₀)) (sym runs ∙ w.same)
 
 -- ---- the end
 
-pub walking_ends : (area entries : List ℕ) (number : ℕ) (table₀ : List ℕ) (n₀ link : ℕ) (table : List ℕ) (n : ℕ) → link ≤ 0 → Walking area entries number table₀ n₀ link table n → ran_to (Sets.Rows n) table ≡ ran_in (length table₀) (run_of (length table₀ / 320) area (entries_of number (entries_in entries)) (rows_in n₀ table₀))
+pub walking_ends : (area entries : List ℕ) (number : ℕ) (table₀ : List ℕ) (n₀ link : ℕ) (table : List ℕ) (n : ℕ) → link ≤ 0 → Walking area entries number table₀ n₀ link table n → ran_to (Ok n) table ≡ ran_in (length table₀) (run_of (length table₀ / 320) area (entries_of number (entries_in entries)) (rows_in n₀ table₀))
 unfolding run_of
 walking_ends area entries number table₀ n₀ link table n h w =
     let z : link ≡ 0 = omega arith in

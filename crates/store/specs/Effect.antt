@@ -2,10 +2,11 @@
 -- nothing. Old values aren't looked at."
 -- Assumes nothing.
 use Rattle.std.specs.Prelude.{ℕ, List}
+use Rattle.std.specs.declared.option.Option.{Option}
+use Rattle.std.specs.declared.option.Option.TheVariants.{None, Some}
 use Rattle.payload.specs.Content.{Content, insert, update, delete, commit, abort}
 use Rattle.entry.specs.Decode.{decode_of, content_at}
 use Rattle.entry.specs.declared.decoding.Decoded.{Decoded}
-use Rattle.entry.specs.declared.decoding.Decoded.TheVariants.{Refused, Entry}
 use Rattle.lists.specs.declared.entries.EntryRecord.{EntryRecord}
 use Rattle.recovery.specs.Payload.{payload_in}
 
@@ -21,9 +22,9 @@ effect_of (delete key old) = drops key
 effect_of commit = keeps
 effect_of abort = keeps
 
-abbrev pub effect_at : (payload : List ℕ) → Decoded → Effect
-effect_at payload Refused = keeps
-effect_at payload (Entry entry used) = effect_of (content_at payload entry)
+abbrev pub effect_at : (payload : List ℕ) → Option Decoded → Effect
+effect_at payload None = keeps
+effect_at payload (Some decoded) = effect_of (content_at payload decoded.entry)
 
 -- of a listed entry
 unfoldable pub effect_in : (area : List ℕ) → EntryRecord → Effect

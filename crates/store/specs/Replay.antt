@@ -1,16 +1,17 @@
 -- Document 01, "Recovery": replay. It runs the recovery itself, empties the table, and applies the committed transactions.
 -- Assumes nothing.
 use Rattle.std.specs.Prelude.{ℕ, ◌/◌, cond, List, [], leb, length, replicate}
-use Rattle.refusal.specs.Answer.{Answer, refused, by_answer}
+use Rattle.std.specs.declared.result.Result.{Result}
+use Rattle.refusal.specs.declared.Refusal.{Refusal}
+use Rattle.refusal.specs.Answer.{Answer, refused, by_answer, answer_of}
 use Rattle.directory.specs.Lent.{fits_of}
 use Rattle.directory.specs.Record.{records_of}
 use Rattle.directory.specs.declared.lent.Lent.TheVariants as Lends
 use Rattle.table.specs.Row.{Row}
 use Rattle.table.specs.Table.{table_of}
 use Rattle.recovery.specs.Log.{LogRead, read_log}
-use Rattle.recovery.specs.Recover.{recovery_as, Recovering, recover_of}
+use Rattle.recovery.specs.Recover.{Recovering, recover_of}
 use Rattle.recovery.specs.declared.Recovered.{Recovered}
-use Rattle.recovery.specs.declared.Recovery.{Recovery}
 use Rattle.store.specs.Order.{replayed}
 use Rattle.store.specs.Change.{run_of}
 
@@ -21,9 +22,9 @@ pub record Replaying : Type 0 where
   pub table : List ℕ
 
 -- what a call gave back, with the buffers that it left
-abbrev pub replaying : Recovery → (entries transactions table : List ℕ) → Replaying
+abbrev pub replaying : Result Recovered Refusal → (entries transactions table : List ℕ) → Replaying
 replaying r entries transactions table =
-    record { answer = recovery_as r; entries = entries; transactions = transactions; table = table }
+    record { answer = answer_of r; entries = entries; transactions = transactions; table = table }
 
 -- 8 and 9: "6 to 9 leave entry list, transactions and table, where lent, zero throughout."
 abbrev pub refused_empty : (number entries transactions table : ℕ) → Replaying

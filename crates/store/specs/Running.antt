@@ -1,22 +1,21 @@
 -- What the functions inside replay ask of the lists and of the table, and what they leave. The lists and the rows are read
 -- off the bytes; a list comes without its unused records.
 -- Assumes nothing.
-use Rattle.std.specs.Prelude.{◌≡◌, List, [], ◌∷◌, ℕ, suc, ◌-◌, ◌*◌, ◌/◌, ◌^◌, ◌<◌, ◌≤◌, length, drop}
-use Rattle.refusal.specs.Answer.{Answer, refused, accepted, by_answer}
+use Rattle.std.specs.Prelude.{◌≡◌, List, [], ℕ, ◌-◌, ◌*◌, ◌/◌, ◌^◌, ◌<◌, ◌≤◌, length, drop}
+use Rattle.std.specs.declared.result.Result.{Result}
+use Rattle.std.specs.declared.result.Result.TheVariants.{Ok}
+use Rattle.refusal.specs.declared.Refusal.{Refusal}
+use Rattle.refusal.specs.Answer.{Answer, refused, accepted, by_answer, answer_of}
 use Rattle.records.specs.Dense.{dense, records_of, All}
 use Rattle.lists.specs.Entries.{entry_record_at, entry_record_bytes, EntryFits}
-use Rattle.lists.specs.Markers.{if_committed}
 use Rattle.lists.specs.Transactions.{transaction_at, transaction_bytes, transactions_of}
 use Rattle.lists.specs.declared.entries.EntryRecord.{EntryRecord}
 use Rattle.lists.specs.declared.transactions.TransactionRecord.{TransactionRecord}
 use Rattle.chains.specs.Chain.{linked_entries, linked_transactions}
 use Rattle.recovery.specs.Payload.{EntryIn}
 use Rattle.recovery.specs.declared.Recovered.{Recovered}
-use Rattle.recovery.specs.declared.Recovery.TheVariants as Recovers
 use Rattle.table.specs.Row.{Row, row_at}
 use Rattle.table.specs.Table.{table_of, Held}
-use Rattle.table.specs.Change.{set_as}
-use Rattle.table.specs.declared.Set.{Set}
 use Rattle.store.specs.Order.{replayed}
 use Rattle.store.specs.Change.{run_of}
 use Rattle.store.specs.Replay.{Replaying, replaying, refused_empty}
@@ -24,11 +23,6 @@ use Rattle.store.specs.Replay.{Replaying, replaying, refused_empty}
 -- the transactions from place k on
 abbrev pub transactions_from : (k : ℕ) → List ℕ → List TransactionRecord
 transactions_from k transactions = records_of 24 transaction_at (length transactions / 24 - k) (drop (24 * k) transactions)
-
--- of transactions from place k on, the place of the next one in replay's order; where there is none, the place behind them
-unfoldable pub next_from : (k : ℕ) → List TransactionRecord → ℕ
-next_from k [] = k
-next_from k (t ∷ ts) = if_committed t.action k (next_from (suc k) ts)
 
 abbrev pub entries_in : List ℕ → List EntryRecord
 entries_in entries = records_of 32 entry_record_at (length entries / 32) entries
@@ -58,8 +52,8 @@ pub record Ran : Type 0 where
 abbrev pub ran : (count : ℕ) → (table : List ℕ) → Answer Ran
 ran count table = accepted (record { count = count; table = table })
 
-abbrev pub ran_to : Set → (table : List ℕ) → Answer Ran
-ran_to r table = by_answer (set_as r) (λ number. refused number) (λ n. ran n table)
+abbrev pub ran_to : Result ℕ Refusal → (table : List ℕ) → Answer Ran
+ran_to r table = by_answer (answer_of r) (λ number. refused number) (λ n. ran n table)
 
 -- in a table of so many bytes
 abbrev pub ran_in : (room : ℕ) → Answer (List Row) → Answer Ran
@@ -82,13 +76,13 @@ pub record Listing (area entries : List ℕ) (n : ℕ) (transactions : List ℕ)
   pub in_area : All (EntryIn area) (listed_in_of n entries)
 
 -- a run over them: they stay as they were, spare bytes too
-pub record RanIs (area entries : List ℕ) (n : ℕ) (transactions : List ℕ) (room : ℕ) (r : Set) (entries' transactions' table' : List ℕ) : Type 0 where
+pub record RanIs (area entries : List ℕ) (n : ℕ) (transactions : List ℕ) (room : ℕ) (r : Result ℕ Refusal) (entries' transactions' table' : List ℕ) : Type 0 where
   pub entries_stay : entries' ≡ entries
   pub transactions_stay : transactions' ≡ transactions
   pub runs : ran_to r table' ≡ ran_in room (run_of (room / 320) area (replayed (listed_in_of n entries)) [])
 
 -- what replay answers and leaves after a run
-abbrev pub concluded_by : Set → Recovered → (entries transactions table : List ℕ) → Replaying
+abbrev pub concluded_by : Result ℕ Refusal → Recovered → (entries transactions table : List ℕ) → Replaying
 concluded_by set recovered entries transactions table =
-    by_answer (set_as set) (λ number. refused_empty number (length entries) (length transactions) (length table))
-    (λ _. replaying (Recovers.Done recovered) entries transactions table)
+    by_answer (answer_of set) (λ number. refused_empty number (length entries) (length transactions) (length table))
+    (λ _. replaying (Ok recovered) entries transactions table)

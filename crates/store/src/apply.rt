@@ -8,7 +8,7 @@ ghost use Rattle.store.specs.Effect.{effect_in};
 
 use entry::{Decoded, Place, WalEntry};
 use lists::entries::EntryRecord;
-use table::Set;
+use refusal::Refusal;
 
 // A key or a value, where it stands in its payload.
 fn bytes_at(payload: &[u8], place: Place) -> &[u8]
@@ -21,16 +21,21 @@ fn bytes_at(payload: &[u8], place: Place) -> &[u8]
 }
 
 // An entry that the recovery listed, applied among the first `rows` rows. Nothing is copied but into the table.
-pub(crate) fn apply(area: &[u8], listed: EntryRecord, table: &mut [u8], rows: usize) -> Set
+pub(crate) fn apply(
+    area: &[u8],
+    listed: EntryRecord,
+    table: &mut [u8],
+    rows: usize,
+) -> Result<usize, Refusal>
     requires { EntryIn area.now listed }
     ensures { changing result table.new ≡ change_of (effect_in area.now listed) table.old rows }
 {
     let start = listed.place as usize;
     let end = start + listed.len as usize;
     let payload = &area[start..end];
-    let Decoded::Entry { entry, .. } = entry::decode(payload) else {
+    let Some(Decoded { entry, .. }) = entry::decode(payload) else {
         // Never taken: recovery lists no entry that doesn't decode.
-        return Set::Rows(rows);
+        return Ok(rows);
     };
     match entry {
         WalEntry::Insert { key, value, .. } => {
@@ -50,6 +55,6 @@ pub(crate) fn apply(area: &[u8], listed: EntryRecord, table: &mut [u8], rows: us
             )
         }
         WalEntry::Delete { key, .. } => table::change::remove(table, rows, bytes_at(payload, key)),
-        WalEntry::Commit { .. } | WalEntry::Abort { .. } => Set::Rows(rows),
+        WalEntry::Commit { .. } | WalEntry::Abort { .. } => Ok(rows),
     }
 }

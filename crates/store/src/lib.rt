@@ -9,9 +9,9 @@ ghost use Rattle.store.specs.Running.{Listing, RanIs, concluded_by};
 use directory::lent::Lent;
 use lists::entries::EntryRecord;
 use lists::transactions::TransactionRecord;
-use recovery::{Recovered, Recovery};
+use records::record::Record;
+use recovery::Recovered;
 use refusal::Refusal;
-use table::Set;
 
 mod apply;
 mod transactions;
@@ -34,7 +34,7 @@ fn replay(
     transactions: &mut [u8],
     m: usize,
     table: &mut [u8],
-) -> Set
+) -> Result<usize, Refusal>
     requires { Listing area.now entries.old n transactions.old m }
     ensures { RanIs area.now entries.old n transactions.old (length table.old) result entries.new transactions.new table.new }
 {
@@ -58,29 +58,28 @@ fn refused_empty(
     transactions: &mut [u8],
     table: &mut [u8],
     refusal: Refusal,
-) -> Recovery
+) -> Result<Recovered, Refusal>
     ensures { replaying result entries.new transactions.new table.new ≡ refused_empty (number_of refusal) (length entries.old) (length transactions.old) (length table.old) }
 {
     fields::bytes::clear(entries);
     fields::bytes::clear(transactions);
     fields::bytes::clear(table);
-    Recovery::Refused(refusal)
+    Err(refusal)
 }
 
 // An accepted replay answers as recovery does.
 fn concluded(
-    set: Set,
+    set: Result<usize, Refusal>,
     recovered: Recovered,
     entries: &mut [u8],
     transactions: &mut [u8],
     table: &mut [u8],
-) -> Recovery
+) -> Result<Recovered, Refusal>
     ensures { replaying result entries.new transactions.new table.new ≡ concluded_by set recovered entries.old transactions.old table.old }
 {
     match set {
-        Set::Rows(_) => Recovery::Done(recovered),
-        Set::TooLong => refused_empty(entries, transactions, table, Refusal::ExceedsTableRecord),
-        Set::Full => refused_empty(entries, transactions, table, Refusal::TableFull),
+        Ok(_) => Ok(recovered),
+        Err(refusal) => refused_empty(entries, transactions, table, refusal),
     }
 }
 
@@ -92,18 +91,18 @@ pub fn recover_into_store(
     entries: &mut [u8],
     transactions: &mut [u8],
     table: &mut [u8],
-) -> Recovery
+) -> Result<Recovered, Refusal>
     ensures { replaying result entries.new transactions.new table.new ≡ replay_of area.now directory.now used entries.old transactions.old table.old }
 {
     if !Lent::Table.fits(table.len()) {
-        return Recovery::Refused(Refusal::InvalidBuffer);
+        return Err(Refusal::InvalidBuffer);
     }
     match recovery::recover(area, directory, used, entries, transactions) {
-        Recovery::Refused(refusal) => {
+        Err(refusal) => {
             leave_table(refusal, table);
-            Recovery::Refused(refusal)
+            Err(refusal)
         }
-        Recovery::Done(recovered) => {
+        Ok(recovered) => {
             let stats = recovered.stats;
             let set = replay(
                 area,

@@ -3,17 +3,17 @@
 use mathlib.Core.Path.{◌≡◌, refl, ◌∙◌}
 use mathlib.Core.Bool.{true, and-eq-true_iff}
 use mathlib.Core.List.{List, ◌++◌, append_assoc}
-use Prim.Native.Nat.{ℕ, ◌+◌, ◌-◌, ◌<◌, ◌≤◌}
-use native.Mathlib.Nat.{add-zero}
+use Prim.Native.Nat.{ℕ, ◌+◌, ◌-◌, ◌≤◌, min}
 use native.Mathlib.Omega.{arith}
 use borrow.Author.Tests.{leb-true}
-use lib.ListN.{length, take, drop, replicate, length-append, length-take, length-replicate, drop_of_length-le}
-use lib.Seq.{sets, drop-drop, take_all, take_at, drop_at}
-use Rattle.fields.specs.Le.{Bytes, le_of, le_bytes, num_at}
-use Rattle.fields.proofs.Numbers.{length_bytes, num_front, num_skip, num_below, bytes_drop}
+use lib.Dec.{leb}
+use lib.ListN.{length, take, drop, replicate, length-append, length-take, length-drop, length-replicate, drop_of_length-le}
+use lib.Seq.{sets, take_all, take_at, drop_at}
+use Rattle.fields.specs.Le.{le_bytes, num_at}
+use Rattle.fields.proofs.Cases.{case_b, tests}
+use Rattle.fields.proofs.Numbers.{length_bytes, num_front, num_skip}
 use Rattle.fields.proofs.Stores.{sets_join}
 use Rattle.table.specs.Row.{Row, row_of, fits, RowFits, padded, marked_bytes, row_bytes, empty_bytes, row_record_at, row_at}
-use Rattle.table.specs.declared.row.RowRecord.{RowRecord}
 
 pub fits_true : (r : Row) → fits r ≡ true → RowFits r
 unfolding fits
@@ -21,7 +21,7 @@ fits_true r e = let h = (and-eq-true_iff _ _).0 e in record { key = leb-true _ _
 
 length-padded : (size : ℕ) (s : List ℕ) → length (padded size s) ≡ size
 unfolding padded
-length-padded size s = simp (length-append, length-take, length-replicate) (omega arith)
+length-padded size s = simp (length-append, length-take, length-drop, length-replicate) (omega arith)
 
 padded_fits : (size : ℕ) (s : List ℕ) → length s ≤ size → padded size s ≡ s ++ replicate (size - length s) 0
 unfolding padded
@@ -61,25 +61,29 @@ empty_is = refl
 
 -- ---- the code of one record
 
--- the numbers of the record at an offset
-pub row_is : (s : List ℕ) (at : ℕ) → ◌≡◌ {A = RowRecord} (record { mark = num_at at 1 s; key_len = num_at (at + 1) 1 s; value_len = num_at (at + 2) 2 s }) (row_record_at (drop at s))
-unfolding row_record_at
-row_is s at = simp (drop-drop, add-zero)
+-- of some bytes as many as there are
+take_there : (s : List ℕ) (n m : ℕ) → m ≡ min n (length s) → take m s ≡ take n s
+take_there s n m e =
+    case_b (leb n (length s))
+    (λ q. let f : m ≡ n = omega (arith, tests) in rw f)
+    (λ q.
+    let f : length s ≤ m = omega (arith, tests) in
+    let g : length s ≤ n = omega (arith, tests) in
+    rw (take_all m s f, take_all n s g))
 
--- past the end
-pub row_past : (s : List ℕ) (at : ℕ) → length s ≤ at → ◌≡◌ {A = RowRecord} (record { mark = 0; key_len = 0; value_len = 0 }) (row_record_at (drop at s))
-unfolding row_record_at le_of
-row_past s at h = rw (drop_of_length-le s h)
-
--- a key length is one byte
-pub key_short : (s : List ℕ) (at : ℕ) (r : RowRecord) → r ≡ row_record_at (drop at s) → Bytes s → r.key_len < 256
-unfolding row_record_at
-key_short s at r e b = rw e (num_below (drop at s) 1 1 1 (omega arith) (bytes_drop at s b))
-
--- the key of the record at an offset
-pub key_is : (s : List ℕ) (at : ℕ) → (row_at (drop at s)).key ≡ take (row_record_at (drop at s)).key_len (drop (at + 4) s)
-unfolding row_at
-key_is s at = rw drop-drop
+-- of the bytes behind a place as many as there are, or none if the place is past the end
+pub part_there : (s : List ℕ) (at n start m : ℕ) → start ≡ min at (length s) → m ≡ min n (length (take (length s - start) (drop start s))) → take m (take (length s - start) (drop start s)) ≡ take n (drop at s)
+part_there s at n start m e f =
+    let w : length (drop start s) ≤ length s - start = rw length-drop (omega arith) in
+    let all : take (length s - start) (drop start s) ≡ drop start s = take_all (length s - start) (drop start s) w in
+    let rest : drop start s ≡ drop at s =
+    case_b (leb at (length s))
+    (λ q. let g : start ≡ at = omega (arith, tests) in rw g)
+    (λ q.
+    let g : length s ≤ start = omega (arith, tests) in
+    let h : length s ≤ at = omega (arith, tests) in
+    rw (drop_of_length-le s g, drop_of_length-le s h)) in
+    rw (all, rest) (take_there (drop at s) n m (rw (all, rest) at f))
 
 -- a part and the zeros behind it
 pub put_zeros : (s part : List ℕ) (at size : ℕ) → length part ≤ size → sets (sets s at part) (at + length part) (replicate (size - length part) 0) ≡ sets s at (padded size part)

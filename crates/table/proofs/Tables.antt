@@ -12,8 +12,8 @@ use Rattle.fields.specs.Order.{compare_bytes}
 use Rattle.fields.proofs.Cases.{case_b, tests}
 use Rattle.refusal.specs.Answer.{refused, accepted}
 use Rattle.records.specs.Sorted.{place_of}
-use Rattle.records.specs.declared.Found.{Found}
-use Rattle.records.specs.declared.Found.TheVariants.{At, Gap}
+use Rattle.std.specs.declared.result.Result.{Result}
+use Rattle.std.specs.declared.result.Result.TheVariants.{Ok, Err}
 use Rattle.records.proofs.Dense.{dense_length, dense_changed, dense_inserted, dense_removed}
 use Rattle.records.proofs.Sorted.{bytes_order, place_at, place_gap}
 use Rattle.records.proofs.Halving.{halve_dense}
@@ -42,13 +42,13 @@ module _ (room : ℕ) where
   -- ---- a row set
 
   set_standing : (row : Row) (rs before : List Row) (r : Row) (after : List Row) → rs ≡ before ++ (r ∷ after) → set row rs ≡ before ++ (row ∷ after) → 320 * length rs ≤ room
-      → set_at (At (length before)) (table_of room rs) (length rs) row ≡ result_in room rs (cond (leb (length (set row rs)) (room / 320)) (accepted (set row rs)) (refused 9))
+      → set_at (Ok (length before)) (table_of room rs) (length rs) row ≡ result_in room rs (cond (leb (length (set row rs)) (room / 320)) (accepted (set row rs)) (refused 9))
   set_standing row rs before r after w e h =
       let n : length (before ++ (row ∷ after)) ≡ length rs = rw w (simp length-append) in
       rw (e, n, le-leb (length rs) (room / 320) (omega arith), n, w, dense_changed row_bytes 320 length_row room before r after row)
 
   set_missing : (row : Row) (rs before after : List Row) → rs ≡ before ++ after → set row rs ≡ before ++ (row ∷ after) → 320 * length rs ≤ room
-      → set_at (Gap (length before)) (table_of room rs) (length rs) row ≡ result_in room rs (cond (leb (length (set row rs)) (room / 320)) (accepted (set row rs)) (refused 9))
+      → set_at (Err (length before)) (table_of room rs) (length rs) row ≡ result_in room rs (cond (leb (length (set row rs)) (room / 320)) (accepted (set row rs)) (refused 9))
   unfolding insert_of
   set_missing row rs before after w e h =
       let n : length (before ++ (row ∷ after)) ≡ length rs + 1 = rw w (simp length-append (omega arith)) in
@@ -66,11 +66,11 @@ module _ (room : ℕ) where
       (λ f. rw (f, find_is row.key rs h, used_all rs h.inside) (told (place_of compare_bytes key_of row.key rs) refl))
       (λ f. rw f)
     where
-      told : (p : Found) → place_of compare_bytes key_of row.key rs ≡ p → set_at p (table_of room rs) (length rs) row ≡ result_in room rs (cond (leb (length (set row rs)) (room / 320)) (accepted (set row rs)) (refused 9))
-      told (At k) q =
+      told : (p : Result ℕ ℕ) → place_of compare_bytes key_of row.key rs ≡ p → set_at p (table_of room rs) (length rs) row ≡ result_in room rs (cond (leb (length (set row rs)) (room / 320)) (accepted (set row rs)) (refused 9))
+      told (Ok k) q =
           let t = place_at compare_bytes key_of row.key rs k q in
           rw (← t.place) (set_standing row rs t.before t.found t.after t.whole (t.changed (λ (r : Row). row) row) h.inside)
-      told (Gap k) q =
+      told (Err k) q =
           let m = place_gap compare_bytes key_of row.key rs k q in
           rw (← m.place) (set_missing row rs m.before m.after m.whole (m.inserted (λ (r : Row). row) row) h.inside)
 
@@ -89,7 +89,7 @@ module _ (room : ℕ) where
   -- ---- a key removed
 
   remove_standing : (key : List ℕ) (rs before : List Row) (r : Row) (after : List Row) → rs ≡ before ++ (r ∷ after) → remove_key key rs ≡ before ++ after → 320 * length rs ≤ room
-      → remove_at (At (length before)) (table_of room rs) (length rs) ≡ changed (accepted (length (remove_key key rs))) (table_of room (remove_key key rs))
+      → remove_at (Ok (length before)) (table_of room rs) (length rs) ≡ changed (accepted (length (remove_key key rs))) (table_of room (remove_key key rs))
   remove_standing key rs before r after w e h =
       let n : length (before ++ after) ≡ length rs - 1 = rw w (simp length-append (omega arith)) in
       rw (e, n, w, dense_removed row_bytes 320 length_row room before r after empty_bytes empty_is (rw (← w) h))
@@ -98,11 +98,11 @@ module _ (room : ℕ) where
   unfolding remove_of remove_key
   remove_is key rs h = rw (find_is key rs h, used_all rs h.inside) (told (place_of compare_bytes key_of key rs) refl)
     where
-      told : (p : Found) → place_of compare_bytes key_of key rs ≡ p → remove_at p (table_of room rs) (length rs) ≡ changed (accepted (length (remove_key key rs))) (table_of room (remove_key key rs))
-      told (At k) q =
+      told : (p : Result ℕ ℕ) → place_of compare_bytes key_of key rs ≡ p → remove_at p (table_of room rs) (length rs) ≡ changed (accepted (length (remove_key key rs))) (table_of room (remove_key key rs))
+      told (Ok k) q =
           let t = place_at compare_bytes key_of key rs k q in
           rw (← t.place) (remove_standing key rs t.before t.found t.after t.whole t.removed h.inside)
-      told (Gap k) q = rw (place_gap compare_bytes key_of key rs k q).removed
+      told (Err k) q = rw (place_gap compare_bytes key_of key rs k q).removed
 
   pub remove_held : (key : List ℕ) (rs : List Row) → Held room rs → Held room (remove_key key rs)
   remove_held key rs h =

@@ -8,7 +8,7 @@ use Rattle.refusal.specs.Answer.{refused, accepted}
 use Rattle.records.specs.Dense.{dense, bytes_of}
 use Rattle.records.specs.Sorted.{record_of, put, remove}
 use Rattle.records.specs.Halving.{found_in, halved, halve}
-use Rattle.records.specs.declared.Found.TheVariants.{At, Gap}
+use Rattle.std.specs.declared.result.Result.TheVariants.{Ok, Err}
 use Rattle.table.specs.Row.{Row, row_of, fits, padded, marked_bytes, row_bytes, empty_bytes, row_record_at, row_at}
 use Rattle.table.specs.Table.{set, remove_key, lookup, set_in, table_of, live_rows}
 use Rattle.table.specs.Change.{order_in, found_of, changed, insert_of, set_of, remove_of}
@@ -111,10 +111,10 @@ remove_last : remove_of (table_of 640 (a ∷ b ∷ [])) 2 (98 ∷ []) ≡ change
 unfolding remove_of found_of found_in halved halve order_in row_at row_record_at compare_bytes dense bytes_of marked_bytes padded le_bytes le_of empty_bytes
 remove_last = refl
 
-found_behind : found_of (table_of 640 (a ∷ b ∷ [])) 2 (97 ∷ 46 ∷ []) ≡ Gap 1
+found_behind : found_of (table_of 640 (a ∷ b ∷ [])) 2 (97 ∷ 46 ∷ []) ≡ Err 1
 unfolding found_of found_in halved halve order_in row_at row_record_at compare_bytes dense bytes_of marked_bytes padded le_bytes le_of
 found_behind = refl
 
-found_there : found_of (table_of 640 (a ∷ b ∷ [])) 2 (98 ∷ []) ≡ At 1
+found_there : found_of (table_of 640 (a ∷ b ∷ [])) 2 (98 ∷ []) ≡ Ok 1
 unfolding found_of found_in halved halve order_in row_at row_record_at compare_bytes dense bytes_of marked_bytes padded le_bytes le_of
 found_there = refl

@@ -3,39 +3,45 @@ ghost use Rattle.std.specs.Prelude.{◌≡◌, ◌*◌, ◌<◌, ◌≤◌, leng
 ghost use Rattle.table.specs.Row.{row_of, RowFits};
 ghost use Rattle.table.specs.Change.{changing, insert_of, set_of, removed_at, remove_of};
 
-use crate::Set;
 use crate::row::{LIVE, RowRecord};
-use records::Found;
+use records::record::Record;
+use refusal::Refusal;
 
 // A new row at k among n, if there is a record left for it.
-fn insert_at(table: &mut [u8], n: usize, k: usize, key: &[u8], value: &[u8]) -> Set
+fn insert_at(
+    table: &mut [u8],
+    n: usize,
+    k: usize,
+    key: &[u8],
+    value: &[u8],
+) -> Result<usize, Refusal>
     requires { (k ≤ n) × RowFits (row_of key.now value.now) }
     ensures { changing result table.new ≡ insert_of table.old n k (row_of key.now value.now) }
 {
     if table.len() / RowRecord::SIZE <= n {
-        return Set::Full;
+        return Err(Refusal::TableFull);
     }
     let at = RowRecord::SIZE * k;
     records::moves::move_up(table, at, RowRecord::SIZE * (n - k), RowRecord::SIZE);
     crate::row::put_row(table, k, LIVE, key, value);
-    Set::Rows(n + 1)
+    Ok(n + 1)
 }
 
 // Sets the key's row among the first n. 8 goes before 9: first whether the row is too long, then whether there is a record
-// for a new one.
-pub fn set(table: &mut [u8], n: usize, key: &[u8], value: &[u8]) -> Set
+// for a new one. Answers how many rows there are then.
+pub fn set(table: &mut [u8], n: usize, key: &[u8], value: &[u8]) -> Result<usize, Refusal>
     ensures { changing result table.new ≡ set_of table.old n (row_of key.now value.now) }
 {
     if !crate::row::fits(key, value) {
-        return Set::TooLong;
+        return Err(Refusal::ExceedsTableRecord);
     }
     let used = crate::find::used_in(table, n);
     match crate::find::find(table, n, key) {
-        Found::At(k) => {
+        Ok(k) => {
             crate::row::put_row(table, k, LIVE, key, value);
-            Set::Rows(used)
+            Ok(used)
         }
-        Found::Gap(k) => insert_at(table, used, k, key, value),
+        Err(k) => insert_at(table, used, k, key, value),
     }
 }
 
@@ -49,16 +55,17 @@ fn close_up(table: &mut [u8], n: usize, k: usize)
     crate::row::empty_row(table, n - 1);
 }
 
-// Removes the key's row from among the first n. A key that has none, an over-long one too, changes nothing.
-pub fn remove(table: &mut [u8], n: usize, key: &[u8]) -> Set
+// Removes the key's row from among the first n. A key that has none, an over-long one too, changes nothing. Answers how many
+// rows there are then.
+pub fn remove(table: &mut [u8], n: usize, key: &[u8]) -> Result<usize, Refusal>
     ensures { changing result table.new ≡ remove_of table.old n key.now }
 {
     let used = crate::find::used_in(table, n);
     match crate::find::find(table, n, key) {
-        Found::At(k) => {
+        Ok(k) => {
             close_up(table, used, k);
-            Set::Rows(used - 1)
+            Ok(used - 1)
         }
-        Found::Gap(_) => Set::Rows(used),
+        Err(_) => Ok(used),
     }
 }

@@ -1,7 +1,10 @@
 // The table's record: mark, key length and value length, the key's bytes and the value's.
 ghost use Rattle.std.specs.Prelude.{◌≡◌, ◌+◌, ◌*◌, ◌≤◌, length, drop};
+ghost use Rattle.std.proofs.Common.{lit<};
 ghost use Rattle.std.proofs.lemmas.List.Edits.{sets};
-ghost use Rattle.table.specs.Row.{row_of, fits, RowFits, padded, marked_bytes, empty_bytes, row_record_at};
+ghost use Rattle.table.specs.Row.{row_of, fits, RowFits, padded, marked_bytes, empty_bytes, row_record_at, row_at};
+
+use records::record::Record;
 
 // What a record holds at most. The crate `payload` has the same two for the entry call; a table knows of no payload, so
 // they stand here once more, by document 01's record.
@@ -28,8 +31,22 @@ pub struct RowRecord {
     pub value_len: usize,
 }
 
-impl RowRecord {
-    pub const SIZE: usize = 320;
+impl Record for RowRecord {
+    const SIZE: usize = 320;
+
+    ghost SIZE = { 320 };
+
+    ghost front = { row_record_at };
+
+    fn read(bytes: &[u8]) -> Self {
+        RowRecord {
+            mark: fields::get_le(bytes, 0, 1),
+            key_len: fields::get_le(bytes, KEY_LEN, 1) as usize,
+            value_len: fields::get_le(bytes, VALUE_LEN, 2) as usize,
+        }
+    }
+
+    ghost has_bytes = { lit< tt };
 }
 
 // Whether a row fits a record.
@@ -43,20 +60,16 @@ pub(crate) fn fits(key: &[u8], value: &[u8]) -> bool
 pub fn row_at(table: &[u8], k: usize) -> RowRecord
     ensures { result ≡ row_record_at (drop (320 * k) table.now) }
 {
-    // Divided, since k records may be more bytes than a number holds.
-    if table.len() / RowRecord::SIZE < k {
-        return RowRecord {
-            mark: 0,
-            key_len: 0,
-            value_len: 0,
-        };
-    }
-    let at = RowRecord::SIZE * k;
-    RowRecord {
-        mark: fields::get_le(table, at, 1),
-        key_len: fields::get_le(table, at + KEY_LEN, 1) as usize,
-        value_len: fields::get_le(table, at + VALUE_LEN, 2) as usize,
-    }
+    records::record::record_at(table, k)
+}
+
+// The key of the record at the front of the bytes, as far as it is there.
+pub(crate) fn key_in(row: &[u8]) -> &[u8]
+    ensures { result.now ≡ (row_at row.now).key }
+{
+    let parts = &row[KEY.min(row.len())..];
+    let len = RowRecord::read(row).key_len;
+    &parts[..len.min(parts.len())]
 }
 
 // Writes a key or a value, and zeros up to its size.

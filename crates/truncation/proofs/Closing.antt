@@ -53,27 +53,27 @@ module _ (area d₀ : List ℕ) (used checkpoint : ℕ) where
       let e : used - 0 ≡ used = omega arith in
       record { place = omega arith; on = omega arith; size = refl; unread = refl; number = rw e (omega arith); bytes = rw e }
 
-  kept_turn : (k : ℕ) (r : SegmentRecord) (t : Bool) → k < used → r ≡ record_at (drop (24 * k) d₀) → t ≡ goes k r → kept_from k ≡ cond t (kept_from (k + 1)) (r ∷ kept_from (k + 1))
+  kept_turn : (k : ℕ) (r : SegmentRecord) → k < used → r ≡ record_at (drop (24 * k) d₀) → kept_from k ≡ cond (goes k r) (kept_from (k + 1)) (r ∷ kept_from (k + 1))
   unfolding kept_of records_of
-  kept_turn k r t h e g = rw (records_turn used k d₀ h, ← e) (told (used - (k + 1)) refl)
+  kept_turn k r h e = rw (records_turn used k d₀ h, ← e) (told (used - (k + 1)) refl)
     where
       behind : List ℕ
       behind = drop (24 * (k + 1)) d₀
 
-      told : (n : ℕ) → used - (k + 1) ≡ n → kept_of area checkpoint (r ∷ records_of n behind) ≡ cond t (kept_of area checkpoint (records_of n behind)) (r ∷ kept_of area checkpoint (records_of n behind))
-      told zero q = let l : k + 1 ≡ used = omega arith in rw (g, eq-eqb _ _ l)
-      told (suc n) q = let l : k + 1 ≡ used → ⊥ = λ f. omega arith in rw (g, ne_eqb _ _ l)
+      told : (n : ℕ) → used - (k + 1) ≡ n → kept_of area checkpoint (r ∷ records_of n behind) ≡ cond (goes k r) (kept_of area checkpoint (records_of n behind)) (r ∷ kept_of area checkpoint (records_of n behind))
+      told zero q = let l : k + 1 ≡ used = omega arith in rw (eq-eqb _ _ l)
+      told (suc n) q = let l : k + 1 ≡ used → ⊥ = λ f. omega arith in rw (ne_eqb _ _ l)
 
-  module _ (d : List ℕ) (kept k : ℕ) (r : SegmentRecord) (t : Bool) (c : Closing d kept k) (h : k < used) (e : r ≡ record_at (drop (24 * k) d)) (g : t ≡ goes k r) where
-    next : kept_from k ≡ cond t (kept_from (k + 1)) (r ∷ kept_from (k + 1))
-    next = kept_turn k r t h (e ∙ ap record_at c.unread) g
+  module _ (d : List ℕ) (kept k : ℕ) (r : SegmentRecord) (c : Closing d kept k) (h : k < used) (e : r ≡ record_at (drop (24 * k) d)) where
+    next : kept_from k ≡ cond (goes k r) (kept_from (k + 1)) (r ∷ kept_from (k + 1))
+    next = kept_turn k r h (e ∙ ap record_at c.unread)
 
     unread_next : drop (24 * (k + 1)) d ≡ drop (24 * (k + 1)) d₀
     unread_next =
         let n : 24 * (k + 1) ≡ 24 * k + 24 = omega arith in
         rw (n, ← drop-drop 24 (24 * k) d, ← drop-drop 24 (24 * k) d₀, c.unread)
 
-    pub closing_dropped : t ≡ true → Closing d kept (k + 1)
+    pub closing_dropped : goes k r ≡ true → Closing d kept (k + 1)
     closing_dropped q =
         let f : kept_from k ≡ kept_from (k + 1) = rw q at next in
         record {
@@ -85,7 +85,7 @@ module _ (area d₀ : List ℕ) (used checkpoint : ℕ) where
           bytes = rw (← f) c.bytes;
         }
 
-    pub closing_kept : t ≡ false → Closing (sets d (24 * kept) (record_bytes r)) (kept + 1) (k + 1)
+    pub closing_kept : goes k r ≡ false → Closing (sets d (24 * kept) (record_bytes r)) (kept + 1) (k + 1)
     closing_kept q =
         let f : kept_from k ≡ r ∷ kept_from (k + 1) = rw q at next in
         record {

@@ -7,6 +7,8 @@ use Prim.Native.Nat.{ℕ, zero, suc, ◌-◌, ◌*◌, ◌<◌, ◌≤◌}
 use native.Mathlib.Omega.{arith}
 use lib.ListN.{length, drop, replicate, length-append, length-replicate}
 use lib.Seq.{drop_at, length-sets}
+use Rattle.std.specs.declared.option.Option.{Option}
+use Rattle.std.specs.declared.option.Option.TheVariants.{None}
 use Rattle.fields.specs.Le.{Bytes}
 use Rattle.fields.proofs.Cases.{case_b}
 use Rattle.fields.proofs.Numbers.{bytes_drop}
@@ -21,11 +23,11 @@ use Rattle.directory.specs.Record.{records_of, record_bytes}
 use Rattle.directory.specs.Rule.{after_record, rule_from, test_of}
 use Rattle.directory.specs.declared.record.SegmentRecord.{SegmentRecord}
 use Rattle.directory.specs.declared.rule.Last.{Last}
-use Rattle.directory.specs.declared.rule.Last.TheVariants.{NoSegment}
+use Rattle.truncation.specs.declared.Truncated.{Truncated}
 use Rattle.directory.proofs.Records.{Held, record_held, record_back, length_record, length_records}
 use Rattle.directory.proofs.Rules.{last_of, rule_without, rule_keep}
 use Rattle.directory.proofs.Sound.{sound_says, sound_so}
-use Rattle.truncation.specs.Truncate.{is_below, kept_of, closed_up, Freed, truncate_of}
+use Rattle.truncation.specs.Truncate.{is_below, kept_of, closed_up, truncate_of}
 
 -- ---- the kept records
 
@@ -46,14 +48,14 @@ module _ (area : List ℕ) (checkpoint : ℕ) where
   kept_least r (q ∷ rs) = case_b (below r) (λ b. rw b (kept_least q rs)) (λ b. rw b (omega arith))
 
   -- the last one: what a new segment or an entry comes behind is what it was
-  pub kept_last : (last : Last) (rs : List SegmentRecord) → last_of last (kept_of area checkpoint rs) ≡ last_of last rs
+  pub kept_last : (last : Option Last) (rs : List SegmentRecord) → last_of last (kept_of area checkpoint rs) ≡ last_of last rs
   unfolding kept_of last_of
   kept_last last [] = refl
   kept_last last (r ∷ []) = refl
   kept_last last (r ∷ q ∷ rs) =
       case_b (below r) (λ b. rw b (kept_last last (q ∷ rs))) (λ b. rw b (kept_last (after_record r) (q ∷ rs)))
 
-  kept_rule : (a : ℕ) (last : Last) (rs : List SegmentRecord) → rule_from a last rs ≡ true → rule_from a last (kept_of area checkpoint rs) ≡ true
+  kept_rule : (a : ℕ) (last : Option Last) (rs : List SegmentRecord) → rule_from a last rs ≡ true → rule_from a last (kept_of area checkpoint rs) ≡ true
   unfolding kept_of
   kept_rule a last [] e = e
   kept_rule a last (r ∷ []) e = e
@@ -117,18 +119,18 @@ module _ (area d : List ℕ) (used checkpoint : ℕ) (bytes : Bytes d) (s : test
         directory = omega arith;
         whole = rw n t.whole;
         used = omega (arith, most);
-        rule = rw kept_reads (kept_rule area checkpoint (length area) NoSegment (records_of used d) t.rule);
+        rule = rw kept_reads (kept_rule area checkpoint (length area) None (records_of used d) t.rule);
       })
 
 -- after a truncation that isn't refused, the directory passes the test with the used count that was answered
-pub truncate_sound : (area d : List ℕ) (used checkpoint : ℕ) (f : Freed) → Bytes d → (truncate_of area d used checkpoint).answer ≡ accepted f → test_of (length area) (truncate_of area d used checkpoint).directory f.used ≡ sound
+pub truncate_sound : (area d : List ℕ) (used checkpoint : ℕ) (f : Truncated) → Bytes d → (truncate_of area d used checkpoint).answer ≡ accepted f → test_of (length area) (truncate_of area d used checkpoint).directory f.used ≡ sound
 unfolding truncate_of
 truncate_sound area d used checkpoint f bytes e =
     by_cases (test_of (length area) d used) (λ n q. never_both (rw q at e))
     (λ x q.
-    let n : length (kept_of area checkpoint (records_of used d)) ≡ f.used = ap (λ (a : Answer Freed). used_of a) (rw q at e) in
+    let n : length (kept_of area checkpoint (records_of used d)) ≡ f.used = ap (λ (a : Answer Truncated). used_of a) (rw q at e) in
     rw (q, ← n) (closed_sound area d used checkpoint bytes q))
   where
-    used_of : Answer Freed → ℕ
+    used_of : Answer Truncated → ℕ
     used_of (refused number) = 0
     used_of (accepted f) = f.used

@@ -3,16 +3,16 @@
 -- Assumes nothing.
 use Rattle.std.specs.Prelude.{Bool, cond, ◌&&◌, List, [], ◌∷◌, ◌++◌, ℕ, ◌-◌, ◌*◌, ltb, length, replicate}
 use Rattle.std.proofs.lemmas.List.Edits.{sets}
-use Rattle.refusal.specs.Number.{number_of}
-use Rattle.refusal.specs.Answer.{Answer, refused, accepted, by_answer}
+use Rattle.std.specs.declared.result.Result.{Result}
+use Rattle.refusal.specs.Answer.{Answer, refused, accepted, by_answer, answer_of}
 use Rattle.records.specs.Dense.{bytes_of}
 use Rattle.scan.specs.Highest.{highest_of}
 use Rattle.directory.specs.Image.{segment_bytes}
 use Rattle.directory.specs.Record.{records_of, record_bytes}
 use Rattle.directory.specs.Rule.{test_of}
 use Rattle.directory.specs.declared.record.SegmentRecord.{SegmentRecord}
+use Rattle.refusal.specs.declared.Refusal.{Refusal}
 use Rattle.truncation.specs.declared.Truncated.{Truncated}
-use Rattle.truncation.specs.declared.Truncated.TheVariants as Truncates
 
 -- "0 < m < checkpoint"
 abbrev pub is_below : (checkpoint m : ℕ) → Bool
@@ -32,22 +32,13 @@ kept_of area checkpoint (r ∷ q ∷ rs) =
 unfoldable pub closed_up : List ℕ → (used : ℕ) → List SegmentRecord → List ℕ
 closed_up directory used kept = sets directory 0 (bytes_of record_bytes kept ++ replicate (24 * (used - length kept)) 0)
 
--- how many were dropped, and the new used count
-pub record Freed : Type 0 where
-  pub count : ℕ
-  pub used : ℕ
-
-abbrev pub truncated_as : Truncated → Answer Freed
-truncated_as (Truncates.Refused refusal) = refused (number_of refusal)
-truncated_as (Truncates.Dropped count used) = accepted (record { count = count; used = used })
-
 pub record Truncating : Type 0 where
-  pub answer : Answer Freed
+  pub answer : Answer Truncated
   pub directory : List ℕ
 
 -- what a call gave back, with the directory that it left
-abbrev pub truncating : Truncated → List ℕ → Truncating
-truncating r directory = record { answer = truncated_as r; directory = directory }
+abbrev pub truncating : Result Truncated Refusal → List ℕ → Truncating
+truncating r directory = record { answer = answer_of r; directory = directory }
 
 -- "and the answer is their number"
 abbrev pub truncate_to : (kept : List SegmentRecord) → List ℕ → (used : ℕ) → Truncating

@@ -1,7 +1,7 @@
 // Truncation by checkpoint.
 #![tactic(auto)]
 
-ghost use Rattle.std.specs.Prelude.{◌≡◌, false, cond, ◌≤◌, length};
+ghost use Rattle.std.specs.Prelude.{◌≡◌, ◌≤◌, length};
 ghost use Rattle.refusal.specs.Answer.{sound};
 ghost use Rattle.scan.specs.Highest.{highest_of};
 ghost use Rattle.directory.specs.Image.{segment_bytes};
@@ -10,15 +10,15 @@ ghost use Rattle.directory.specs.Rule.{test_of};
 ghost use Rattle.truncation.specs.Truncate.{is_below, kept_of, closed_up, truncating, truncate_of};
 
 use directory::record::SegmentRecord;
-use directory::rule::Tested;
+use records::record::Record;
 use refusal::Refusal;
 use scan::Step;
 
 // How many segments were dropped, and the used count after the call.
 #[derive(Clone, Copy)]
-pub enum Truncated {
-    Refused(Refusal),
-    Dropped { count: usize, used: usize },
+pub struct Truncated {
+    pub count: usize,
+    pub used: usize,
 }
 
 // The highest number of a segment, 0 where there is none: "That scan stops at a partial write or wrong checksum but passes
@@ -35,9 +35,7 @@ fn read_segment_max_tx_id(segment: &[u8]) -> u64
                 at = payload.start + payload.len;
             }
             Step::Undecodable { payload } => at = payload.start + payload.len,
-            Step::End => return max_tx_id,
-            Step::Torn => return max_tx_id,
-            Step::WrongChecksum => return max_tx_id,
+            Step::End | Step::Torn | Step::WrongChecksum => return max_tx_id,
         }
     }
 }
@@ -46,23 +44,17 @@ fn read_segment_max_tx_id(segment: &[u8]) -> u64
 fn is_below(checkpoint: u64, max_tx_id: u64) -> bool
     ensures { result ≡ is_below checkpoint max_tx_id }
 {
-    if max_tx_id == 0 {
-        return false;
-    }
-    max_tx_id < checkpoint
+    0 < max_tx_id && max_tx_id < checkpoint
 }
 
-// The last segment is never dropped: it may be the active one.
-fn is_dropped(area: &[u8], segment: SegmentRecord, last: bool, checkpoint: u64) -> bool
+// That of a segment of the directory, by its bytes in the area.
+fn max_tx_id(area: &[u8], segment: SegmentRecord) -> u64
     requires { end_of segment ≤ length area.now }
-    ensures { result ≡ cond last false (is_below checkpoint (highest_of (segment_bytes area.now segment))) }
+    ensures { result ≡ highest_of (segment_bytes area.now segment) }
 {
-    if last {
-        return false;
-    }
     let start = segment.start as usize;
     let end = (segment.start + segment.length) as usize;
-    is_below(checkpoint, read_segment_max_tx_id(&area[start..end]))
+    read_segment_max_tx_id(&area[start..end])
 }
 
 // "The kept records close up in order, the freed ones become zero": how many are kept. A record's new place is never behind
@@ -72,14 +64,13 @@ fn close_up(area: &[u8], directory: &mut [u8], used: usize, checkpoint: u64) -> 
     ensures { let kept = kept_of area.now checkpoint (records_of used directory.old) in (result ≡ length kept) × (directory.new ≡ closed_up directory.old used kept) }
 {
     let mut kept = 0;
-    let mut k = 0;
-    while k < used {
+    for k in 0..used {
         let segment = directory::record::record_at(directory, k);
-        if !is_dropped(area, segment, k + 1 == used, checkpoint) {
+        // The last segment is never dropped: it may be the active one.
+        if k + 1 == used || !is_below(checkpoint, max_tx_id(area, segment)) {
             directory::record::put_record(directory, kept, segment);
             kept += 1;
         }
-        k += 1;
     }
     let freed = SegmentRecord::SIZE * (used - kept);
     fields::bytes::zero(directory, SegmentRecord::SIZE * kept, freed);
@@ -91,15 +82,13 @@ pub fn truncate_segments_before(
     directory: &mut [u8],
     used: usize,
     checkpoint: u64,
-) -> Truncated
+) -> Result<Truncated, Refusal>
     ensures { truncating result directory.new ≡ truncate_of area.now directory.old used checkpoint }
 {
-    match directory::rule::test(area.len(), directory, used) {
-        Tested::Refused(refusal) => Truncated::Refused(refusal),
-        Tested::Sound => {
-            let kept = close_up(area, directory, used, checkpoint);
-            let count = used - kept;
-            Truncated::Dropped { count, used: kept }
-        }
-    }
+    directory::rule::test(area.len(), directory, used)?;
+    let kept = close_up(area, directory, used, checkpoint);
+    Ok(Truncated {
+        count: used - kept,
+        used: kept,
+    })
 }

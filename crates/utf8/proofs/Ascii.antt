@@ -1,16 +1,18 @@
 -- Octets of UTF8-1: eight of them by one test, and passing them changes nothing.
-use Prim.Native.Nat.{ℕ, ◌+◌, ◌-◌, ◌≤◌, ◌<◌}
+use Prim.Native.Nat.{ℕ, ◌+◌, ◌<◌}
 use mathlib.Core.Path.{◌≡◌, refl, sym, ◌∙◌}
-use mathlib.Core.Bool.{Bool, true, false, ◌&&◌, or-false, and_assoc, and-true}
+use mathlib.Core.Bool.{Bool, true, false, cond, ◌&&◌, or-false, and_assoc, and-true}
 use mathlib.Core.List.{List, [], ◌∷◌, ◌++◌}
 use native.Mathlib.Omega.{arith}
-use borrow.Author.Tests.{leb-true, ltb-true, ltb-false, lt-ltb, le-ltb}
+use borrow.Author.Tests.{leb-true, le-leb, lt-leb, ltb-true, ltb-false, lt-ltb, le-ltb}
 use lib.Bits.{bit_or, or_lt, or_add_and, and_le_l, and_le_r}
 use lib.Dec.{leb, ltb}
-use lib.ListN.{length, take, drop, get_or, take-append-drop, drop_of_length-le}
-use lib.Seq.{drop-cons, drop-drop}
+use lib.ListN.{length, take, drop, get_or, take-append-drop, drop_of_length-le, length-drop}
+use lib.Seq.{drop-cons}
+use Rattle.std.specs.declared.option.Option.TheVariants.{None, Some}
+use Rattle.std.proofs.lemmas.Option.{cond_some}
 use Rattle.utf8.specs.Grammar.{begun, utf8_char, utf8_1, utf8_2, utf8_3, utf8_4, tail, after, any, completes}
-use Rattle.utf8.specs.Ascii.{ascii, ascii_at}
+use Rattle.utf8.specs.Ascii.{ascii, behind_ascii}
 use Rattle.utf8.proofs.Holds.{both_left, both_right}
 use Rattle.utf8.proofs.Stretch.{stretch, begun_same}
 
@@ -43,14 +45,27 @@ passes (b ∷ xs) ys e =
     let h = ltb-true b 0x80 (both_left (ltb b 0x80) _ e) in
     rw (begun_ascii b h) (or-false _ ∙ passes xs ys (both_right (ltb b 0x80) _ e))
 
--- eight octets at an offset may be passed, and they are there
-module _ (bytes : List ℕ) (i : ℕ) (e : ascii_at bytes i ≡ true) where
-  pub eight_there : i + 8 ≤ length bytes
-  unfolding ascii_at
-  eight_there = let h = leb-true 8 (length bytes - i) (both_left (leb 8 (length bytes - i)) _ e) in omega arith
+-- what is answered of too few octets, and of eight and more
+pub behind_few : (bytes : List ℕ) → length bytes < 8 → None ≡ behind_ascii bytes
+unfolding behind_ascii
+behind_few bytes h = rw (lt-leb 8 (length bytes) h)
 
-  pub eight_pass : completes [] (drop (i + 8) bytes) ≡ completes [] (drop i bytes)
-  unfolding ascii_at
-  eight_pass =
-      let p = passes (take 8 (drop i bytes)) (drop 8 (drop i bytes)) (both_right (leb 8 (length bytes - i)) _ e) in
-      sym (rw (take-append-drop, drop-drop) at p)
+pub behind_eight : (bytes eight rest : List ℕ) (t : Bool) → eight ≡ take 8 bytes → rest ≡ drop 8 bytes → length rest + 8 ≡ length bytes → ascii eight ≡ t → cond t (Some rest) None ≡ behind_ascii bytes
+unfolding behind_ascii
+behind_eight bytes eight rest t e r l h = rw (le-leb 8 (length bytes) (omega arith), ← e, ← r, h)
+
+-- eight octets that are passed change nothing
+pub record Passed (bytes rest : List ℕ) : Type 0 where
+  pub shorter : length rest < length bytes
+  pub same : completes [] rest ≡ completes [] bytes
+
+pub eight_pass : (bytes rest : List ℕ) → behind_ascii bytes ≡ Some rest → Passed bytes rest
+unfolding behind_ascii
+eight_pass bytes rest e =
+    let t = cond_some _ _ _ e in
+    let there = leb-true 8 (length bytes) (both_left _ _ t.0) in
+    let p = passes (take 8 bytes) (drop 8 bytes) (both_right (leb 8 (length bytes)) _ t.0) in
+    record {
+      shorter = rw (← t.1, length-drop) (omega arith);
+      same = sym (rw (take-append-drop, t.1) at p);
+    }

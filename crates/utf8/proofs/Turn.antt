@@ -1,12 +1,11 @@
 -- One octet's turn: what may follow it, and that the rest is to be tested for that.
-use Prim.Native.Nat.{ℕ, zero, suc, ◌-◌, ◌<◌}
-use mathlib.Core.Path.{◌≡◌, refl, sym, ◌∙◌}
+use Prim.Native.Nat.{ℕ, zero, suc, ◌-◌}
+use mathlib.Core.Path.{◌≡◌, refl, sym}
 use mathlib.Core.Bool.{Bool, false, cond, or-false}
 use mathlib.Core.List.{List, [], ◌∷◌}
 use native.Mathlib.Omega.{arith}
 use lib.Dec.{eqb, eqb-suc-zero}
-use lib.ListN.{length, drop, get_or, replicate}
-use lib.Seq.{drop-cons}
+use lib.ListN.{length, replicate}
 use Rattle.utf8.specs.Grammar.{Range, tail, holds, after, any, completes}
 use Rattle.utf8.specs.State.{ranges}
 
@@ -20,20 +19,17 @@ after_some b zero r t h e = absurd (h refl)
 after_some b (suc n) r t h e = let m : suc n - 1 ≡ n = omega arith in rw (e, m, tails n)
 
 -- at the octets' end nothing may be awaited
-pub ended : (n : ℕ) (r : Range) → completes (ranges n r) [] ≡ eqb n 0
+pub ended : (n : ℕ) (r : Range) (bs : List ℕ) → length bs ≡ 0 → completes (ranges n r) bs ≡ eqb n 0
 unfolding completes
-ended zero r = refl
-ended (suc n) r = sym (eqb-suc-zero n)
+ended zero r [] e = refl
+ended (suc n) r [] e = sym (eqb-suc-zero n)
+ended n r (b ∷ bs) e = absurd (omega arith)
 
-module _ (bytes : List ℕ) (i : ℕ) (h : i < length bytes) (rs : List Range) where
-  turn : (next : List (List Range)) → next ≡ after (get_or bytes i 0) rs → completes rs (drop i bytes) ≡ any (λ left. completes left (drop (suc i) bytes)) next
-  unfolding completes
-  turn next e = rw (drop-cons bytes i 0, e)
+module _ (b : ℕ) (bs : List ℕ) (rs : List Range) where
+  pub goes : (left : List Range) → (left ∷ []) ≡ after b rs → completes left bs ≡ completes rs (b ∷ bs)
+  unfolding completes any
+  goes left e = rw (← e) (sym (or-false (completes left bs)))
 
-  pub goes : (left : List Range) → (left ∷ []) ≡ after (get_or bytes i 0) rs → completes left (drop (suc i) bytes) ≡ completes rs (drop i bytes)
-  unfolding any
-  goes left e = sym (turn (left ∷ []) e ∙ or-false (completes left (drop (suc i) bytes)))
-
-  pub stops : [] ≡ after (get_or bytes i 0) rs → completes rs (drop i bytes) ≡ false
-  unfolding any
-  stops e = turn [] e
+  pub stops : [] ≡ after b rs → completes rs (b ∷ bs) ≡ false
+  unfolding completes any
+  stops e = rw (← e)

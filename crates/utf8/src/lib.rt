@@ -1,10 +1,11 @@
 // Whether bytes are UTF-8, by the grammar of RFC 3629, section 4.
 #![tactic(auto)]
 
-ghost use Rattle.std.specs.Prelude.{◌≡◌, ◌≤◌, length};
+ghost use Rattle.std.specs.Prelude.{◌≡◌};
+ghost use Rattle.std.specs.Option.{option_copied};
 ghost use Rattle.utf8.specs.Grammar.{utf8_char, begun, after, is_utf8};
 ghost use Rattle.utf8.specs.State.{ranges_of, next_of};
-ghost use Rattle.utf8.specs.Ascii.{ascii, ascii_at};
+ghost use Rattle.utf8.specs.Ascii.{ascii, behind_ascii};
 
 // What is to come of the character that was begun: left octets, the first from low to high, the others tails.
 #[derive(Clone, Copy)]
@@ -14,21 +15,14 @@ struct Awaited {
     high: u8,
 }
 
-// What an octet leaves.
-#[derive(Clone, Copy)]
-enum Next {
-    Refused,
-    Awaits(Awaited),
-}
-
-fn awaits(left: usize, low: u8, high: u8) -> Next
-    ensures { result ≡ Next.Awaits (record { left = left; low = low; high = high }) }
+fn awaits(left: usize, low: u8, high: u8) -> Option<Awaited>
+    ensures { result ≡ Some (record { left = left; low = low; high = high }) }
 {
-    Next::Awaits(Awaited { left, low, high })
+    Some(Awaited { left, low, high })
 }
 
-// A character's first octet says how many follow, and the range of the second.
-fn begin(b: u8) -> Next
+// What an octet leaves, if it may stand there. A character's first octet says how many follow, and the range of the second.
+fn begin(b: u8) -> Option<Awaited>
     ensures { next_of result ≡ begun b utf8_char }
 {
     match b {
@@ -41,30 +35,25 @@ fn begin(b: u8) -> Next
         0xF0 => awaits(3, 0x90, 0xBF),
         0xF1..=0xF3 => awaits(3, 0x80, 0xBF),
         0xF4 => awaits(3, 0x80, 0x8F),
-        _ => Next::Refused,
+        _ => None,
     }
 }
 
 // The octet begins a character where none was begun; else it must be the awaited one.
-fn step(s: Awaited, b: u8) -> Next
+fn step(s: Awaited, b: u8) -> Option<Awaited>
     ensures { next_of result ≡ after b (ranges_of s) }
 {
-    let left = s.left;
-    if left == 0 {
+    if s.left == 0 {
         return begin(b);
     }
-    if b < s.low {
-        return Next::Refused;
+    if b < s.low || s.high < b {
+        return None;
     }
-    if s.high < b {
-        return Next::Refused;
-    }
-    awaits(left - 1, 0x80, 0xBF)
+    awaits(s.left - 1, 0x80, 0xBF)
 }
 
 // An OR is below 0x80 exactly if every octet of it is, so one test serves for eight.
-fn ascii_eight(s: &[u8]) -> bool
-    requires { length s.now ≡ 8 }
+fn ascii_eight(s: &[u8; 8]) -> bool
     ensures { result ≡ ascii s.now }
 {
     let a = s[0] | s[1] | s[2] | s[3];
@@ -72,15 +61,12 @@ fn ascii_eight(s: &[u8]) -> bool
     (a | b) < 0x80
 }
 
-fn ascii_at(bytes: &[u8], at: usize) -> bool
-    requires { at ≤ length bytes.now }
-    ensures { result ≡ ascii_at bytes.now at }
+// What stands behind the first eight octets, if these are all UTF8-1.
+fn behind_ascii(bytes: &[u8]) -> Option<&[u8]>
+    ensures { option_copied result ≡ behind_ascii bytes.now }
 {
-    if bytes.len() - at < 8 {
-        return false;
-    }
-    let e = at + 8;
-    ascii_eight(&bytes[at..e])
+    let (eight, rest) = bytes.split_first_chunk::<8>()?;
+    if ascii_eight(eight) { Some(rest) } else { None }
 }
 
 pub fn is_utf8(bytes: &[u8]) -> bool
@@ -91,21 +77,20 @@ pub fn is_utf8(bytes: &[u8]) -> bool
         low: 0x80,
         high: 0xBF,
     };
-    let mut i = 0;
-    while i < bytes.len() {
-        let left = s.left;
+    let mut rest = bytes;
+    while let Some((&b, tail)) = rest.split_first() {
         // Most octets are UTF8-1, and pass eight at a time.
-        if left == 0 {
-            if ascii_at(bytes, i) {
-                i += 8;
+        if s.left == 0 {
+            if let Some(behind) = behind_ascii(rest) {
+                rest = behind;
                 continue;
             }
         }
-        let Next::Awaits(next) = step(s, bytes[i]) else {
+        let Some(next) = step(s, b) else {
             return false;
         };
         s = next;
-        i += 1;
+        rest = tail;
     }
     s.left == 0
 }

@@ -1,19 +1,15 @@
 // What `encode` does not write and `decode` reads, as `bincode::deserialize` does for the Rust's `ByteWalEntry`: longer parts, and
-// bytes left over. Before a payload: kind, number, time, lengths of key, old and new value. Behind it: how many of its bytes
+// bytes left over. Before a payload: number, time, and the lengths of the parts that its kind has. Behind it: how many of its bytes
 // `bincode::deserialize_from` took.
 use super::coded;
+use super::coded::Coded;
 use super::tally::Tally;
 
 fn longer(t: Tally) -> Tally {
     // A key of 252 and a value of 253 bytes.
     coded::front(
         t,
-        0,
-        5,
-        6,
-        252,
-        0,
-        253,
+        Coded::insert(5, 6, 252, 253),
         b"\x00\x00\x00\x00\
         \x05\x00\x00\x00\x00\x00\x00\x00\
         \x06\x00\x00\x00\x00\x00\x00\x00\
@@ -35,12 +31,7 @@ fn longer(t: Tally) -> Tally {
 fn behind_parts(t: Tally) -> Tally {
     let t = coded::front(
         t,
-        0,
-        1,
-        5,
-        1,
-        0,
-        1,
+        Coded::insert(1, 5, 1, 1),
         b"\x00\x00\x00\x00\
         \x01\x00\x00\x00\x00\x00\x00\x00\
         \x05\x00\x00\x00\x00\x00\x00\x00\
@@ -53,12 +44,7 @@ fn behind_parts(t: Tally) -> Tally {
     );
     coded::front(
         t,
-        2,
-        1,
-        5,
-        1,
-        1,
-        0,
+        Coded::delete(1, 5, 1, 1),
         b"\x02\x00\x00\x00\
         \x01\x00\x00\x00\x00\x00\x00\x00\
         \x05\x00\x00\x00\x00\x00\x00\x00\
@@ -75,12 +61,7 @@ fn behind_update(t: Tally) -> Tally {
     // Behind an update, the length of more than there is.
     coded::front(
         t,
-        1,
-        1,
-        5,
-        1,
-        1,
-        1,
+        Coded::update(1, 5, 1, 1, 1),
         b"\x01\x00\x00\x00\
         \x01\x00\x00\x00\x00\x00\x00\x00\
         \x05\x00\x00\x00\x00\x00\x00\x00\
@@ -99,12 +80,7 @@ fn behind_markers(t: Tally) -> Tally {
     // Behind a commit, what would be a key of no UTF-8.
     let t = coded::front(
         t,
-        3,
-        7,
-        1,
-        0,
-        0,
-        0,
+        Coded::commit(7, 1),
         b"\x03\x00\x00\x00\
         \x07\x00\x00\x00\x00\x00\x00\x00\
         \x01\x00\x00\x00\x00\x00\x00\x00\
@@ -114,12 +90,7 @@ fn behind_markers(t: Tally) -> Tally {
     // Behind an abort, a commit.
     coded::front(
         t,
-        4,
-        7,
-        1,
-        0,
-        0,
-        0,
+        Coded::abort(7, 1),
         b"\x04\x00\x00\x00\
         \x07\x00\x00\x00\x00\x00\x00\x00\
         \x01\x00\x00\x00\x00\x00\x00\x00\

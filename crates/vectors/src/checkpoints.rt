@@ -1,10 +1,11 @@
 // What document 01 says of a checkpoint's bytes, over its log of number 1 and its commit.
 use super::readings::LOG;
 use super::tally::Tally;
+use super::writing::number_of;
 use directory::record::SegmentRecord;
-use recovery::Checkpointed;
+use refusal::Refusal;
 
-fn checkpoint(stored: &[u8], target: &mut [u8]) -> Checkpointed {
+fn checkpoint(stored: &[u8], target: &mut [u8]) -> Result<u64, Refusal> {
     let mut directory = [0u8; 24];
     let segment = SegmentRecord {
         id: 1,
@@ -25,30 +26,16 @@ fn checkpoint(stored: &[u8], target: &mut [u8]) -> Checkpointed {
     )
 }
 
-fn is_at(checkpointed: Checkpointed, number: u64) -> bool {
-    match checkpointed {
-        Checkpointed::Refused(_) => false,
-        Checkpointed::At(at) => at == number,
-    }
-}
-
-fn is_refused(checkpointed: Checkpointed, number: u64) -> bool {
-    match checkpointed {
-        Checkpointed::Refused(refusal) => refusal.number() == number,
-        Checkpointed::At(_) => false,
-    }
-}
-
 // "writes its 8 bytes at the target's start, the rest unchanged"; "a target for .. a checkpoint is too short for it"
 fn targets(t: Tally) -> Tally {
     let mut short = [0x2au8; 7];
     let mut long = [0x2au8; 10];
     let refused = checkpoint(b"", &mut short);
     let written = checkpoint(b"", &mut long);
-    t.with(is_refused(refused, 1))
-        .with(fields::bytes::same(&short, b"*******"))
-        .with(is_at(written, 1))
-        .with(fields::bytes::same(&long, b"\x01\x00\x00\x00\x00\x00\x00\x00**"))
+    t.with(number_of(refused) == 1)
+        .with(&short == b"*******")
+        .with(written == Ok(1))
+        .with(&long == b"\x01\x00\x00\x00\x00\x00\x00\x00**")
 }
 
 // "A checkpoint image not exactly 8 bytes reads as 0."
@@ -64,7 +51,7 @@ fn stored(t: Tally) -> Tally {
     let mut target = [0u8; 8];
     let whole = checkpoint(b"\x01\x00\x00\x00\x00\x00\x00\x00", &mut target);
     let longer = checkpoint(b"\x01\x00\x00\x00\x00\x00\x00\x00\x00", &mut target);
-    t.with(is_refused(whole, 10)).with(is_at(longer, 1))
+    t.with(number_of(whole) == 10).with(longer == Ok(1))
 }
 
 pub(crate) fn all(t: Tally) -> Tally {

@@ -8,11 +8,9 @@ const START: u32 = 0xffff_ffff;
 // From 0 up to `last`, and from 0 again.
 fn fill(target: &mut [u8], last: u8) {
     let mut byte: u8 = 0;
-    let mut i = 0;
-    while i < target.len() {
-        target[i] = byte;
+    for to in target.iter_mut() {
+        *to = byte;
         byte = if byte < last { byte + 1 } else { 0 };
-        i += 1;
     }
 }
 

@@ -1,18 +1,13 @@
-// Deletes as the Rust appends them, header and payload. Before them: kind, number, time, lengths of key, old and
-// new value.
+// Deletes as the Rust appends them, header and payload. Before them: number, time, lengths of key and old value.
 use super::coded;
+use super::coded::Coded;
 use super::tally::Tally;
 
 fn short(t: Tally) -> Tally {
     // A key of four bytes, an old value of three.
     let t = coded::vector(
         t,
-        2,
-        3,
-        4,
-        4,
-        3,
-        0,
+        Coded::delete(3, 4, 4, 3),
         b"\x2b\x00\x00\x00\x00\x00\x00\x00\x35\xdb\x7b\xea\x01\
         \x02\x00\x00\x00\
         \x03\x00\x00\x00\x00\x00\x00\x00\
@@ -25,12 +20,7 @@ fn short(t: Tally) -> Tally {
     // Each byte of the two numbers another.
     coded::vector(
         t,
-        2,
-        0x0102_0304_0506_0708,
-        0x1112_1314_1516_1718,
-        0,
-        0,
-        0,
+        Coded::delete(0x0102_0304_0506_0708, 0x1112_1314_1516_1718, 0, 0),
         b"\x24\x00\x00\x00\x00\x00\x00\x00\xdd\x00\xff\x8a\x01\
         \x02\x00\x00\x00\
         \x08\x07\x06\x05\x04\x03\x02\x01\
@@ -44,12 +34,7 @@ fn longest(t: Tally) -> Tally {
     // A key of 64 and a value of 252 bytes.
     coded::vector(
         t,
-        2,
-        1,
-        2,
-        64,
-        252,
-        0,
+        Coded::delete(1, 2, 64, 252),
         b"\x60\x01\x00\x00\x00\x00\x00\x00\xff\xdd\x83\xf2\x01\
         \x02\x00\x00\x00\
         \x01\x00\x00\x00\x00\x00\x00\x00\

@@ -1,18 +1,13 @@
-// Inserts as the Rust appends them, header and payload. Before them: kind, number, time, lengths of key, old and
-// new value.
+// Inserts as the Rust appends them, header and payload. Before them: number, time, lengths of key and value.
 use super::coded;
+use super::coded::Coded;
 use super::tally::Tally;
 
 fn short(t: Tally) -> Tally {
     // Document 01's: number 1, key `a`, one value byte.
     let t = coded::vector(
         t,
-        0,
-        1,
-        5,
-        1,
-        0,
-        1,
+        Coded::insert(1, 5, 1, 1),
         b"\x26\x00\x00\x00\x00\x00\x00\x00\x84\x8f\x22\xce\x01\
         \x00\x00\x00\x00\
         \x01\x00\x00\x00\x00\x00\x00\x00\
@@ -25,12 +20,7 @@ fn short(t: Tally) -> Tally {
     // Both parts empty, both numbers 0.
     coded::vector(
         t,
-        0,
-        0,
-        0,
-        0,
-        0,
-        0,
+        Coded::insert(0, 0, 0, 0),
         b"\x24\x00\x00\x00\x00\x00\x00\x00\xd5\xb2\xb6\x6a\x01\
         \x00\x00\x00\x00\
         \x00\x00\x00\x00\x00\x00\x00\x00\
@@ -44,12 +34,7 @@ fn wide(t: Tally) -> Tally {
     // Both numbers 2^64 - 1.
     let t = coded::vector(
         t,
-        0,
-        0xffff_ffff_ffff_ffff,
-        0xffff_ffff_ffff_ffff,
-        1,
-        0,
-        4,
+        Coded::insert(0xffff_ffff_ffff_ffff, 0xffff_ffff_ffff_ffff, 1, 4),
         b"\x29\x00\x00\x00\x00\x00\x00\x00\xfd\x13\xfc\xe2\x01\
         \x00\x00\x00\x00\
         \xff\xff\xff\xff\xff\xff\xff\xff\
@@ -62,12 +47,7 @@ fn wide(t: Tally) -> Tally {
     // A key of a character of two octets, one of three and one of four. A value may be any bytes.
     coded::vector(
         t,
-        0,
-        2,
-        1700000000,
-        9,
-        0,
-        2,
+        Coded::insert(2, 1700000000, 9, 2),
         b"\x2f\x00\x00\x00\x00\x00\x00\x00\xb4\x58\xe0\x82\x01\
         \x00\x00\x00\x00\
         \x02\x00\x00\x00\x00\x00\x00\x00\
@@ -83,12 +63,7 @@ fn longest(t: Tally) -> Tally {
     // A key of 64 and a value of 252 bytes.
     coded::vector(
         t,
-        0,
-        11,
-        12,
-        64,
-        0,
-        252,
+        Coded::insert(11, 12, 64, 252),
         b"\x60\x01\x00\x00\x00\x00\x00\x00\x54\x87\x0d\x42\x01\
         \x00\x00\x00\x00\
         \x0b\x00\x00\x00\x00\x00\x00\x00\

@@ -10,31 +10,20 @@ pub(crate) enum Question {
     IsRefused,
 }
 
-fn is_refused(payload: &[u8]) -> bool {
-    match entry::decode(payload) {
-        entry::Decoded::Refused => true,
-        entry::Decoded::Entry { entry: _, used: _ } => false,
-    }
-}
-
 fn answers(question: Question, line: &[u8]) -> bool {
     match question {
         Question::IsUtf8 => utf8::is_utf8(line),
         Question::IsNotUtf8 => !utf8::is_utf8(line),
-        Question::IsRefused => is_refused(line),
+        Question::IsRefused => entry::decode(line).is_none(),
     }
 }
 
 pub(crate) fn ask(tally: Tally, question: Question, text: &[u8]) -> Tally {
     let mut t = tally;
-    let mut start = 0;
-    let mut i = 0;
-    while i < text.len() {
-        if text[i] == b'\n' {
-            t = t.with(answers(question, &text[start..i]));
-            start = i + 1;
+    for line in text.split_inclusive(|byte| *byte == b'\n') {
+        if let Some(line) = line.strip_suffix(b"\n") {
+            t = t.with(answers(question, line));
         }
-        i += 1;
     }
     t
 }

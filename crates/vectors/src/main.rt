@@ -27,14 +27,14 @@ fn payloads(t: tally::Tally) -> tally::Tally {
 
 fn main(rt: HostRuntime) -> io::Result<()> {
     let none = tally::Tally::new();
-    checksums::all(none).print(&rt, b"crc32 ")?;
-    texts::accepted(none).print(&rt, b"utf-8 accepted ")?;
-    texts::refused(none).print(&rt, b"utf-8 refused ")?;
-    readings::all(none).print(&rt, b"entry readings ")?;
-    writing::all(none).print(&rt, b"writer readings ")?;
-    scanning::all(none).print(&rt, b"scan readings ")?;
-    checkpoints::all(none).print(&rt, b"checkpoint readings ")?;
-    payloads(none).print(&rt, b"bincode payloads ")?;
-    allowed::all(none).print(&rt, b"bincode only read ")?;
-    undecodable::all(none).print(&rt, b"bincode refused ")
+    checksums::all(none).print(&rt, "crc32")?;
+    texts::accepted(none).print(&rt, "utf-8 accepted")?;
+    texts::refused(none).print(&rt, "utf-8 refused")?;
+    readings::all(none).print(&rt, "entry readings")?;
+    writing::all(none).print(&rt, "writer readings")?;
+    scanning::all(none).print(&rt, "scan readings")?;
+    checkpoints::all(none).print(&rt, "checkpoint readings")?;
+    payloads(none).print(&rt, "bincode payloads")?;
+    allowed::all(none).print(&rt, "bincode only read")?;
+    undecodable::all(none).print(&rt, "bincode refused")
 }

@@ -1,18 +1,13 @@
-// Commits and aborts as the Rust appends them, header and payload. Before them: kind, number, time, lengths of key, old and
-// new value.
+// Commits and aborts as the Rust appends them, header and payload. Before them: number and time.
 use super::coded;
+use super::coded::Coded;
 use super::tally::Tally;
 
 fn commits(t: Tally) -> Tally {
     // Document 01's: number 7, time 1.
     let t = coded::vector(
         t,
-        3,
-        7,
-        1,
-        0,
-        0,
-        0,
+        Coded::commit(7, 1),
         b"\x14\x00\x00\x00\x00\x00\x00\x00\xac\x2e\x2f\x91\x01\
         \x03\x00\x00\x00\
         \x07\x00\x00\x00\x00\x00\x00\x00\
@@ -20,12 +15,7 @@ fn commits(t: Tally) -> Tally {
     );
     coded::vector(
         t,
-        3,
-        0,
-        0,
-        0,
-        0,
-        0,
+        Coded::commit(0, 0),
         b"\x14\x00\x00\x00\x00\x00\x00\x00\x47\xd6\x7c\xa0\x01\
         \x03\x00\x00\x00\
         \x00\x00\x00\x00\x00\x00\x00\x00\
@@ -36,12 +26,7 @@ fn commits(t: Tally) -> Tally {
 fn aborts(t: Tally) -> Tally {
     let t = coded::vector(
         t,
-        4,
-        9,
-        2,
-        0,
-        0,
-        0,
+        Coded::abort(9, 2),
         b"\x14\x00\x00\x00\x00\x00\x00\x00\x77\x79\x66\xde\x01\
         \x04\x00\x00\x00\
         \x09\x00\x00\x00\x00\x00\x00\x00\
@@ -50,12 +35,7 @@ fn aborts(t: Tally) -> Tally {
     // Both numbers with their highest bit.
     coded::vector(
         t,
-        4,
-        0x8000_0000_0000_0000,
-        0xffff_ffff_ffff_ffff,
-        0,
-        0,
-        0,
+        Coded::abort(0x8000_0000_0000_0000, 0xffff_ffff_ffff_ffff),
         b"\x14\x00\x00\x00\x00\x00\x00\x00\xee\x70\x0b\x63\x01\
         \x04\x00\x00\x00\
         \x00\x00\x00\x00\x00\x00\x00\x80\

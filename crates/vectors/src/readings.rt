@@ -1,7 +1,9 @@
 // The readings of document 01 that concern an entry alone, and what its section on entry bytes says of headers. The log of two
 // entries is what the Rust's own header and bincode give for them.
 use super::coded;
+use super::coded::Coded;
 use super::tally::Tally;
+use entry::{EncodeError, WalEntryHeader};
 
 // An insert of number 1 with key `a` and one value byte, then its commit: 51 and 33 bytes.
 pub(crate) const LOG: [u8; 84] = *b"\x26\x00\x00\x00\x00\x00\x00\x00\x84\x8f\x22\xce\x01\
@@ -19,7 +21,7 @@ pub(crate) const LOG: [u8; 84] = *b"\x26\x00\x00\x00\x00\x00\x00\x00\x84\x8f\x22
 
 // The front of so many bytes.
 pub(crate) fn front(s: &[u8], n: usize) -> &[u8] {
-    if n <= s.len() { &s[0..n] } else { s }
+    s.get(..n).unwrap_or(s)
 }
 
 // `encode` for number 1 at time 5, with a key `aa..` and values of bytes 9 that are so long.
@@ -29,7 +31,7 @@ fn encode(
     old_value: usize,
     new_value: usize,
     target: &mut [u8],
-) -> entry::Encoded {
+) -> Result<usize, EncodeError> {
     let k = [b'a'; 256];
     let v = [9u8; 256];
     entry::encode(
@@ -46,21 +48,14 @@ fn encode(
 // `encode` writes so many bytes, where there is room for anything well-formed.
 fn fits(kind: u64, key: usize, old_value: usize, new_value: usize, len: usize) -> bool {
     let mut target = [0xeeu8; 640];
-    match encode(kind, key, old_value, new_value, &mut target) {
-        entry::Encoded::Written(n) => n == len,
-        entry::Encoded::NotWellFormed => false,
-        entry::Encoded::NoRoom => false,
-    }
+    encode(kind, key, old_value, new_value, &mut target) == Ok(len)
 }
 
 // `encode` finds it not well-formed, and leaves the target as it was.
 fn refuses(kind: u64, key: usize, old_value: usize, new_value: usize) -> bool {
     let mut target = [0xeeu8; 640];
-    match encode(kind, key, old_value, new_value, &mut target) {
-        entry::Encoded::Written(_) => false,
-        entry::Encoded::NotWellFormed => fields::bytes::same(&target, &[0xeeu8; 640]),
-        entry::Encoded::NoRoom => false,
-    }
+    let encoded = encode(kind, key, old_value, new_value, &mut target);
+    encoded == Err(EncodeError::NotWellFormed) && target == [0xee; 640]
 }
 
 // 13 and 38 bytes, 13 and 20 bytes.
@@ -68,8 +63,8 @@ fn insert_and_commit(t: Tally, log: &[u8]) -> Tally {
     if log.len() != 84 {
         return t.with(false);
     }
-    let t = coded::vector(t, 0, 1, 5, 1, 0, 1, &log[0..51]);
-    coded::vector(t, 3, 1, 5, 0, 0, 0, &log[51..84])
+    let t = coded::vector(t, Coded::insert(1, 5, 1, 1), &log[0..51]);
+    coded::vector(t, Coded::commit(1, 5), &log[51..84])
 }
 
 // "Insert number 1 of key `a`, one value byte: payload 38, entry 51. Followed by its commit, 84 bytes."
@@ -104,25 +99,25 @@ fn kinds(t: Tally) -> Tally {
 // Each byte of the header has its place, there and back.
 fn headers(t: Tally) -> Tally {
     let other = b"\x01\x02\x03\x04\x05\x06\x07\x08\x09\x0a\x0b\x0c\x0d";
-    let read = entry::WalEntryHeader::from_bytes(other);
+    let read = WalEntryHeader::from_bytes(other);
     t.with(read.length == 0x0807_0605_0403_0201)
         .with(read.checksum == 0x0c0b_0a09)
         .with(read.version == 0x0d)
-        .with(fields::bytes::same(&read.to_bytes(), other))
-        .with(entry::WalEntryHeader::SIZE == 13)
-        .with(entry::WalEntryHeader::VERSION == 1)
+        .with(&read.to_bytes() == other)
+        .with(WalEntryHeader::SIZE == 13)
+        .with(WalEntryHeader::VERSION == 1)
 }
 
 // Whether data passes for the nine digits. "The version is written and never tested on reading."
 fn is_valid(t: Tally, data: &[u8], wanted: bool) -> Tally {
-    let header = entry::WalEntryHeader {
+    let header = WalEntryHeader {
         length: 9,
         checksum: 0xcbf4_3926,
         version: 9,
     };
     t.with(header.validate(data) == wanted)
-        .with(entry::WalEntryHeader::from_bytes(&header.to_bytes()).validate(data) == wanted)
-        .with((entry::WalEntryHeader::new(data).checksum == 0xcbf4_3926) == wanted)
+        .with(WalEntryHeader::from_bytes(&header.to_bytes()).validate(data) == wanted)
+        .with((WalEntryHeader::new(data).checksum == 0xcbf4_3926) == wanted)
 }
 
 fn validity(t: Tally) -> Tally {

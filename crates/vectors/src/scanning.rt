@@ -3,7 +3,6 @@
 use super::tally::Tally;
 use directory::record;
 use directory::record::SegmentRecord;
-use recovery::Recovery;
 use truncation::Truncated;
 
 // An entry of no payload, and the commit: 13 and 33 bytes.
@@ -36,8 +35,8 @@ fn recovered(t: Tally) -> Tally {
     let mut transactions = [0u8; 24];
     list_segments(&mut directory);
     match recovery::recover(&SEGMENT, &directory, 2, &mut entries, &mut transactions) {
-        Recovery::Refused(_) => t.with(false),
-        Recovery::Done(recovered) => {
+        Err(_) => t.with(false),
+        Ok(recovered) => {
             let stats = recovered.stats;
             t.with(stats.checksum_failures == 1)
                 .with(stats.partial_writes == 0)
@@ -51,8 +50,8 @@ fn leaves(checkpoint: u64, left: usize, first: u64) -> bool {
     let mut directory = [0u8; 48];
     list_segments(&mut directory);
     match truncation::truncate_segments_before(&SEGMENT, &mut directory, 2, checkpoint) {
-        Truncated::Refused(_) => false,
-        Truncated::Dropped { used, .. } => {
+        Err(_) => false,
+        Ok(Truncated { used, .. }) => {
             let segment = record::record_at(&directory, 0);
             used == left && segment.id == first
         }

@@ -14,18 +14,15 @@ impl Tally {
 
     // One more vector.
     pub(crate) fn with(self, ok: bool) -> Tally {
-        let one = if ok { 1 } else { 0 };
         Tally {
-            held: std::num::wrapping_add_u64(self.held, one),
-            run: std::num::wrapping_add_u64(self.run, 1),
+            held: self.held.wrapping_add(u64::from(ok)),
+            run: self.run.wrapping_add(1),
         }
     }
 
-    // The group's line, from its name with a space behind it.
-    pub(crate) fn print(self, rt: &impl Print, group: &[u8]) -> io::Result<()> {
-        rt.write_all(group)?;
-        let held = self.held;
-        let run = self.run;
-        println!(rt; "{held} of {run}")
+    // The group's line.
+    pub(crate) fn print(self, rt: &impl Print, group: &str) -> io::Result<()> {
+        let Tally { held, run } = self;
+        println!(rt; "{group} {held} of {run}")
     }
 }

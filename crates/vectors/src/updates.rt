@@ -1,18 +1,14 @@
-// Updates as the Rust appends them, header and payload. Before them: kind, number, time, lengths of key, old and
-// new value.
+// Updates as the Rust appends them, header and payload. Before them: number, time, lengths of key, old and new
+// value.
 use super::coded;
+use super::coded::Coded;
 use super::tally::Tally;
 
 // Three parts of three lengths, and from nothing to nothing.
 fn short(t: Tally) -> Tally {
     let t = coded::vector(
         t,
-        1,
-        2,
-        1700000000,
-        3,
-        7,
-        5,
+        Coded::update(2, 1700000000, 3, 7, 5),
         b"\x3b\x00\x00\x00\x00\x00\x00\x00\x4d\x5f\x76\x87\x01\
         \x01\x00\x00\x00\
         \x02\x00\x00\x00\x00\x00\x00\x00\
@@ -26,12 +22,7 @@ fn short(t: Tally) -> Tally {
     );
     coded::vector(
         t,
-        1,
-        3,
-        0,
-        0,
-        0,
-        0,
+        Coded::update(3, 0, 0, 0, 0),
         b"\x2c\x00\x00\x00\x00\x00\x00\x00\xf6\xee\xb0\x83\x01\
         \x01\x00\x00\x00\
         \x03\x00\x00\x00\x00\x00\x00\x00\
@@ -46,12 +37,7 @@ fn short(t: Tally) -> Tally {
 fn one_sided(t: Tally) -> Tally {
     let t = coded::vector(
         t,
-        1,
-        4,
-        1,
-        1,
-        0,
-        1,
+        Coded::update(4, 1, 1, 0, 1),
         b"\x2e\x00\x00\x00\x00\x00\x00\x00\xdf\xd2\x3b\x5b\x01\
         \x01\x00\x00\x00\
         \x04\x00\x00\x00\x00\x00\x00\x00\
@@ -64,12 +50,7 @@ fn one_sided(t: Tally) -> Tally {
     );
     coded::vector(
         t,
-        1,
-        5,
-        1,
-        1,
-        1,
-        0,
+        Coded::update(5, 1, 1, 1, 0),
         b"\x2e\x00\x00\x00\x00\x00\x00\x00\x72\x9d\xa4\x7d\x01\
         \x01\x00\x00\x00\
         \x05\x00\x00\x00\x00\x00\x00\x00\
@@ -86,12 +67,7 @@ fn longest(t: Tally) -> Tally {
     // The longest payload that `encode` writes.
     coded::vector(
         t,
-        1,
-        0xffff_ffff_ffff_ffff,
-        1,
-        64,
-        252,
-        252,
+        Coded::update(0xffff_ffff_ffff_ffff, 1, 64, 252, 252),
         b"\x64\x02\x00\x00\x00\x00\x00\x00\x11\x52\x7f\x84\x01\
         \x01\x00\x00\x00\
         \xff\xff\xff\xff\xff\xff\xff\xff\

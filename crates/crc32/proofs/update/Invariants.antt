@@ -1,14 +1,8 @@
--- `crc32::update` meets its contract. The loop's invariant: from the register as it is, the bytes that are left lead to
--- what all bytes lead to from the start.
--- Assumes nothing.
+-- `update` meets its contract. The invariant: the bytes that are left, taken in from crc, are all of them taken in from `start`.
 use mathlib.Core.Path.{◌≡◌}
-use Prim.Native.Nat.{◌-◌, ◌≤◌}
-use lib.ListN.{length, drop}
+use lib.ListN.{drop}
 use Rattle.crc32.specs.Crc.{register}
 use Rattle.crc32.proofs.update.Given as goal
 
-abbrev pub invariant-loop-i : goal.invariant-loop-i
-invariant-loop-i l = (l.i ≤ length l.data) × (register l.crc (drop l.i l.data) ≡ register l.start l.data)
-
-abbrev pub decreases-loop-i : goal.decreases-loop-i
-decreases-loop-i l = length l.data - l.i
+abbrev pub invariant-loop-byte : goal.invariant-loop-byte
+invariant-loop-byte l = register l.crc (drop l.byte-index l.data) ≡ register l.start l.data

@@ -1,17 +1,10 @@
--- `fields::get_u64` meets its contract.
+-- `fields::get_u64` meets its contract: eight bytes that are there, as std reads them.
 -- Assumes nothing.
-use Prim.Native.Nat.{◌+◌}
-use native.Mathlib.Omega.{arith}
-use Rattle.fields.specs.Le.{le_of}
-use Rattle.fields.proofs.Numbers.{num_below, num_four}
+use Rattle.std.proofs.Common.{◌∙◌}
+use Rattle.fields.proofs.Numbers.{word_there}
 use Rattle.fields.proofs.get_u64.Goals as goal
 
-pub overflow_mul-result : goal.overflow_mul-result
-overflow_mul-result c = omega (arith, num_below c.args.s.now (c.args.at + 4) 4 4 (omega arith) (λ j. (c.type_inv.s j).fits))
-
-pub overflow_add-result : goal.overflow_add-result
-overflow_add-result c = omega (arith, num_below c.args.s.now c.args.at 4 4 (omega arith) (λ j. (c.type_inv.s j).fits), num_below c.args.s.now (c.args.at + 4) 4 4 (omega arith) (λ j. (c.type_inv.s j).fits))
-
-pub returns : goal.returns
-unfolding le_of
-returns c = omega (arith, num_four c.args.s.now c.args.at 0 (omega arith), num_four c.args.s.now c.args.at 4 (omega arith))
+pub returns-in-Some : goal.returns-in-Some
+returns-in-Some c =
+    let a = c.args in
+    c.from_le_bytes.ensures ∙ word_there a.s.now c.in-Some.bytes.now a.at c.min.result c.min.ensures c.in-Some.ensures.cases

@@ -1,18 +1,12 @@
 -- `names::unsigned` meets its contract, by the text's first byte.
 -- Assumes nothing.
-use native.Mathlib.Omega.{arith}
-use Rattle.names.proofs.Reading.{plus_empty, plus_dropped, plus_absent}
+use mathlib.Core.Path.{ap, ◌∙◌}
+use mathlib.Core.List.{List}
+use Prim.Native.Nat.{ℕ}
+use denote.Ref.{Bor}
+use Rattle.names.proofs.Reading.{plus_says}
 use Rattle.names.proofs.unsigned.Goals as goal
-
-pub returns-then-text-eq0 : goal.returns-then-text-eq0
-returns-then-text-eq0 c = plus_empty _ c.if-text-eq0.true
-
-pub returns-then-text-eq43 : goal.returns-then-text-eq43
-returns-then-text-eq43 c =
-    let a = c.args in
-    plus_dropped a.text.now (omega arith) (omega arith)
 
 pub returns : goal.returns
 returns c =
-    let a = c.args in
-    plus_absent a.text.now (omega arith) c.if-text-eq43.false
+    ap (λ (x : Bor (List ℕ)). x.now) c.unwrap_or.ensures ∙ plus_says c.args.text c.strip_prefix.result c.strip_prefix.ensures.cases

@@ -1,64 +1,65 @@
 -- `encode` meets its contract: arm by arm, what the kind asks for.
 -- Assumes nothing.
-use Rattle.payload.proofs.Laws.{limits, accepted, refused, marked}
-use native.Mathlib.Omega.{arith}
-use Rattle.payload.specs.Kind.{by_kind}
-use Rattle.payload.specs.Content.{insert, update, delete, payload_of}
-use Rattle.payload.specs.Encode.{asked}
+use mathlib.Core.Path.{◌≡◌}
+use mathlib.Core.Logic.{⊎_elim}
+use Rattle.std.proofs.lemmas.Result.{err_from_is_err_and}
+use Rattle.payload.specs.declared.kind.Kind.TheVariants.{Insert, Update, Delete, Commit, Abort}
+use Rattle.payload.proofs.Laws.{unknown, refused, put_answers, parts_fit}
 use Rattle.payload.proofs.encode.Goals as goal
 
-pub returns-then-not-well_formed : goal.returns-then-not-well_formed
-returns-then-not-well_formed c =
-    let w = c.well_formed-2 in
-    refused _ _ _ _ (rw w.ensures at c.if-not-well_formed.true)
+pub returns-in_err-kind : goal.returns-in_err-kind
+returns-in_err-kind c =
+    let a = c.args in
+    let p = err_from_is_err_and c.from_residual.result c.from_residual.ensures.1 in
+    rw (p.1, p.2)
+    (refused _ _ _ _ (unknown a.kind a.key.now a.old_value.now a.new_value.now c.in_err-kind.ensures.1))
 
-pub put_two-requires : goal.put_two-requires
-unfolding asked by_kind
-put_two-requires c =
-    let w = c.well_formed-2 in
-    limits (insert _ _) (rw (w.ensures, c.in-0.is) at c.if-not-well_formed.false)
+pub returns-then-not-fits : goal.returns-then-not-fits
+returns-then-not-fits c =
+    let f = c.fits in
+    refused _ _ _ _ (rw (f.ensures, c.in_ok-kind.ensures) at c.if-not-fits.true)
 
-pub put_three-requires : goal.put_three-requires
-unfolding asked by_kind
-put_three-requires c =
-    let w = c.well_formed-2 in
-    limits (update _ _ _) (rw (w.ensures, c.in-1.is) at c.if-not-well_formed.false)
+pub put-requires : goal.put-requires
+put-requires c =
+    let f = c.fits in
+    parts_fit Insert c.args.key c.args.old_value c.args.new_value (rw (f.ensures, c.in-Insert.is) at c.if-not-fits.false)
 
-pub put_two-requires-in-2 : goal.put_two-requires-in-2
-unfolding asked by_kind
-put_two-requires-in-2 c =
-    let w = c.well_formed-2 in
-    limits (delete _ _) (rw (w.ensures, c.in-2.is) at c.if-not-well_formed.false)
+pub put-requires-in-Update : goal.put-requires-in-Update
+put-requires-in-Update c =
+    let f = c.fits in
+    parts_fit Update c.args.key c.args.old_value c.args.new_value (rw (f.ensures, c.in-Update.is) at c.if-not-fits.false)
 
-pub returns-in-0 : goal.returns-in-0
-unfolding asked by_kind payload_of
-returns-in-0 c =
-    let w = c.well_formed-2 in
-    let k = c.in-0.is in
-    rw k
-    (accepted (insert _ _) _ _ _ _ _ (rw (w.ensures, k) at c.if-not-well_formed.false)
-    (rw k at c.put_two.ensures))
+pub put-requires-in-Delete : goal.put-requires-in-Delete
+put-requires-in-Delete c =
+    let f = c.fits in
+    parts_fit Delete c.args.key c.args.old_value c.args.new_value (rw (f.ensures, c.in-Delete.is) at c.if-not-fits.false)
 
-pub returns-in-1 : goal.returns-in-1
-unfolding asked by_kind payload_of
-returns-in-1 c =
-    let w = c.well_formed-2 in
-    let k = c.in-1.is in
-    rw k
-    (accepted (update _ _ _) _ _ _ _ _ (rw (w.ensures, k) at c.if-not-well_formed.false)
-    (rw k at c.put_three.ensures))
+pub returns-in-Insert : goal.returns-in-Insert
+returns-in-Insert c =
+    let a = c.args in
+    let f = c.fits in
+    let k = c.in-Insert.is in
+    put_answers a.tx_id a.timestamp a.key a.old_value a.new_value _ _ _ Insert _ (rw k at c.in_ok-kind.ensures) (rw (f.ensures, k) at c.if-not-fits.false) (rw k at c.put.ensures)
 
-pub returns-in-2 : goal.returns-in-2
-unfolding asked by_kind payload_of
-returns-in-2 c =
-    let w = c.well_formed-2 in
-    let k = c.in-2.is in
-    rw k
-    (accepted (delete _ _) _ _ _ _ _ (rw (w.ensures, k) at c.if-not-well_formed.false)
-    (rw k at c.put_two-in-2.ensures))
+pub returns-in-Update : goal.returns-in-Update
+returns-in-Update c =
+    let a = c.args in
+    let f = c.fits in
+    let k = c.in-Update.is in
+    put_answers a.tx_id a.timestamp a.key a.old_value a.new_value _ _ _ Update _ (rw k at c.in_ok-kind.ensures) (rw (f.ensures, k) at c.if-not-fits.false) (rw k at c.put-in-Update.ensures)
 
-pub returns-in_default : goal.returns-in_default
-returns-in_default c =
-    let w = c.well_formed-2 in
-    marked _ _ _ _ _ _ _ _ _ (omega arith) (rw w.ensures at c.if-not-well_formed.false)
-    c.put_marker.ensures
+pub returns-in-Delete : goal.returns-in-Delete
+returns-in-Delete c =
+    let a = c.args in
+    let f = c.fits in
+    let k = c.in-Delete.is in
+    put_answers a.tx_id a.timestamp a.key a.old_value a.new_value _ _ _ Delete _ (rw k at c.in_ok-kind.ensures) (rw (f.ensures, k) at c.if-not-fits.false) (rw k at c.put-in-Delete.ensures)
+
+pub returns-in-Commit : goal.returns-in-Commit
+returns-in-Commit c =
+    let a = c.args in
+    let f = c.fits in
+    ⊎_elim
+    (λ (k : c.in_ok-kind.kind ≡ Commit). put_answers a.tx_id a.timestamp a.key a.old_value a.new_value _ _ _ Commit _ (rw k at c.in_ok-kind.ensures) (rw (f.ensures, k) at c.if-not-fits.false) (rw k at c.put-in-Commit.ensures))
+    (λ (k : c.in_ok-kind.kind ≡ Abort). put_answers a.tx_id a.timestamp a.key a.old_value a.new_value _ _ _ Abort _ (rw k at c.in_ok-kind.ensures) (rw (f.ensures, k) at c.if-not-fits.false) (rw k at c.put-in-Commit.ensures))
+    c.in-Commit.is

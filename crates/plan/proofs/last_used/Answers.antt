@@ -2,20 +2,20 @@
 -- Assumes nothing.
 use mathlib.Core.Path.{ap}
 use native.Mathlib.Omega.{arith}
-use borrow.Author.Tests.{ne_eqb}
 use Rattle.directory.specs.Record.{end_of}
-use Rattle.directory.specs.Rule.{after_record}
+use Rattle.directory.proofs.Sound.{sound_ends}
 use Rattle.plan.specs.Plan.{last_in}
-use Rattle.plan.proofs.Plans.{last_in_lem}
 use Rattle.plan.proofs.last_used.Goals as goal
 
-pub returns-then-used-eq0 : goal.returns-then-used-eq0
+pub returns-in_err-checked_sub : goal.returns-in_err-checked_sub
 unfolding last_in
-returns-then-used-eq0 c = rw c.if-used-eq0.true
+returns-in_err-checked_sub c = grind arith
 
-pub overflow_add-result : goal.overflow_add-result
-overflow_add-result c = omega (arith, ap end_of c.record_at-segment.ensures, last_in_lem _ _ (omega arith) _ c.requires)
+pub after-requires : goal.after-requires
+after-requires c =
+    let h = sound_ends c.args.area_len c.args.directory.now c.args.used c.requires c.in_ok-checked_sub.field-0 (grind arith) in
+    omega (arith, ap end_of c.record_at-segment.ensures)
 
 pub returns : goal.returns
 unfolding last_in
-returns c = rw (ne_eqb _ _ c.if-used-eq0.false) (ap after_record c.record_at-segment.ensures)
+returns c = grind arith

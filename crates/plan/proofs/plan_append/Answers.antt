@@ -1,18 +1,20 @@
 -- `plan_append` meets its contract: refused by the test, or else the plan of the tested.
 -- Assumes nothing.
 use mathlib.Core.Path.{ap, sym, ◌∙◌}
-use Rattle.directory.specs.Rule.{tested_as}
+use native.Mathlib.Omega.{arith}
+use Rattle.std.proofs.lemmas.Result.{err_from_is_err_and}
+use Rattle.refusal.specs.Answer.{answer_of}
 use Rattle.plan.specs.Plan.{plan_append_of}
 use Rattle.plan.proofs.Plans.{test_says}
 use Rattle.plan.proofs.plan_append.Goals as goal
 
+pub returns-in_err-append_test : goal.returns-in_err-append_test
+unfolding plan_append_of
+returns-in_err-append_test c = let p = err_from_is_err_and c.from_residual.result c.from_residual.ensures.1 in grind arith
+
 pub plan_tested-requires : goal.plan_tested-requires
-plan_tested-requires c = test_says _ _ _ (sym c.append_test.ensures ∙ ap tested_as c.in-Sound.is)
+plan_tested-requires c = test_says _ _ _ (sym c.append_test.ensures ∙ ap answer_of c.in_ok-append_test.was)
 
-pub returns-in-Refused : goal.returns-in-Refused
+pub returns : goal.returns
 unfolding plan_append_of
-returns-in-Refused c = rw (← c.append_test.ensures, c.in-Refused.is)
-
-pub returns-in-Sound : goal.returns-in-Sound
-unfolding plan_append_of
-returns-in-Sound c = rw (← c.append_test.ensures, c.in-Sound.is) c.plan_tested.ensures
+returns c = grind arith

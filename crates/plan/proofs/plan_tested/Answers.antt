@@ -1,10 +1,14 @@
 -- `plan_tested` meets its contract: behind the active segment below the bound, else behind a new one; each ends in the area.
 -- Assumes nothing.
-use mathlib.Core.Path.{ap, sym, ◌∙◌}
+use mathlib.Core.Path.{◌≡◌, ap, sym, ◌∙◌}
+use Prim.Native.Nat.{◌/◌}
+use lib.ListN.{length}
 use native.Mathlib.Omega.{arith}
-use borrow.Author.Tests.{le-leb, lt-leb}
+use Rattle.std.proofs.lemmas.Result.{err_from_is_err_and}
+use Rattle.refusal.specs.Answer.{accepted, answer_of}
 use Rattle.directory.specs.Record.{end_of}
-use Rattle.plan.specs.Plan.{new_segment_as, plan_of}
+use Rattle.directory.specs.Rule.{after_record}
+use Rattle.plan.specs.Plan.{next_of, plan_of}
 use Rattle.plan.proofs.Plans.{last_in_lem, new_end}
 use Rattle.plan.proofs.plan_tested.Goals as goal
 
@@ -13,23 +17,21 @@ behind-requires c = omega (arith, ap end_of c.record_at-last.ensures, last_in_le
 
 pub returns-then-last-bound : goal.returns-then-last-bound
 unfolding plan_of
-returns-then-last-bound c = rw (← c.record_at-last.ensures, lt-leb _ _ c.if-last-bound.true) c.behind.ensures
+returns-then-last-bound c = grind arith
 
-pub overflow_add-after : goal.overflow_add-after
-overflow_add-after c = omega (arith, ap end_of c.record_at-last.ensures, last_in_lem _ _ (omega arith) _ c.requires.0)
+pub after-requires : goal.after-requires
+after-requires c = omega (arith, ap end_of c.record_at-last.ensures, last_in_lem _ _ (omega arith) _ c.requires.0)
 
-pub behind-requires-in-Record : goal.behind-requires-in-Record
-behind-requires-in-Record c =
+pub returns-in_err-segment : goal.returns-in_err-segment
+unfolding plan_of
+returns-in_err-segment c = let p = err_from_is_err_and c.from_residual.result c.from_residual.ensures.1 in grind arith
+
+pub behind-requires-2 : goal.behind-requires-2
+behind-requires-2 c =
     let r = c.record_at-last in
-    omega (arith, new_end r.result _ _ _ (sym c.next.ensures ∙ ap new_segment_as c.in-Record.is), ap end_of r.ensures, last_in_lem _ _ (omega arith) _ c.requires.0)
+    let e : next_of (after_record r.result) c.args.used (length c.args.directory.now / 24) ≡ accepted c.in_ok-segment.segment = rw (← c.after.ensures) (sym c.next.ensures ∙ ap answer_of c.in_ok-segment.was) in
+    omega (arith, new_end _ _ _ _ e, ap end_of r.ensures, last_in_lem _ _ (omega arith) _ c.requires.0)
 
-pub returns-in-Refused : goal.returns-in-Refused
+pub returns : goal.returns
 unfolding plan_of
-returns-in-Refused c =
-    rw (← c.record_at-last.ensures, le-leb _ _ c.if-last-bound.false, ← c.next.ensures, c.in-Refused.is)
-
-pub returns-in-Record : goal.returns-in-Record
-unfolding plan_of
-returns-in-Record c =
-    rw (← c.record_at-last.ensures, le-leb _ _ c.if-last-bound.false, ← c.next.ensures, c.in-Record.is)
-    c.behind-in-Record.ensures
+returns c = grind arith

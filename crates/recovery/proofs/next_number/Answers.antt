@@ -1,17 +1,17 @@
--- `next_number` meets its contract: by the two tests.
+-- `next_number` meets its contract: a case for each.
 -- Assumes nothing.
-use borrow.Author.Tests.{eq-eqb, ne_eqb}
+use native.Mathlib.Omega.{arith}
 use Rattle.recovery.specs.Recover.{next_of}
 use Rattle.recovery.proofs.next_number.Goals as goal
 
-pub returns-then-highest-eq0 : goal.returns-then-highest-eq0
+pub returns-in-0 : goal.returns-in-0
 unfolding next_of
-returns-then-highest-eq0 c = rw (eq-eqb _ _ c.if-highest-eq0.true)
+returns-in-0 c = grind arith
 
-pub returns-then-highest-eq18446744073709551615 : goal.returns-then-highest-eq18446744073709551615
+pub returns-in-18446744073709551615 : goal.returns-in-18446744073709551615
 unfolding next_of
-returns-then-highest-eq18446744073709551615 c = rw (ne_eqb _ _ c.if-highest-eq0.false, eq-eqb _ _ c.if-highest-eq18446744073709551615.true)
+returns-in-18446744073709551615 c = grind arith
 
-pub returns : goal.returns
+pub returns-in_default : goal.returns-in_default
 unfolding next_of
-returns c = rw (ne_eqb _ _ c.if-highest-eq0.false, ne_eqb _ _ c.if-highest-eq18446744073709551615.false)
+returns-in_default c = grind arith

@@ -19,4 +19,4 @@ pub returns : goal.returns
 unfolding judge_of
 returns c =
     let v = c.validate in
-    rw (← v.ensures, c.if-not-validate.false, ← c.decode.ensures, c.in-Entry.is)
+    rw (← v.ensures, c.if-not-validate.false, ← c.decode.ensures, c.in-Some.is)

@@ -40,11 +40,6 @@ returns-then-not-has c =
 fits : (s : List ℕ) (at : ℕ) (h : WalEntryHeader) (t : Bool) → h ≡ header_at (take (length s - at) (drop at s)) → t ≡ leb h.length (length s - at - 13) → t ≡ true → (payload_at s at).len ≤ length s - at - 13
 fits s at h t e l k = leb-true _ _ (sym (lies s at h t e l) ∙ k)
 
-pub judge_at-requires : goal.judge_at-requires
-judge_at-requires c =
-    let f = fits c.args.segment.now c.args.at _ _ c.read-header.ensures c.has.ensures c.if-not-has.false in
-    rw (header c.args.segment.now c.args.at _ c.read-header.ensures) (omega arith)
-
 pub returns : goal.returns
 unfolding step_at
 returns c =

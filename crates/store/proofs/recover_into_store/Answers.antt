@@ -11,19 +11,18 @@ returns-then-not-fits c = let f = c.fits in rw (← f.ensures, c.if-not-fits.tru
 
 pub replay-set-requires : goal.replay-set-requires
 replay-set-requires c =
-    accepted_lists _ _ _ _ _ _ _ c.in-Done.recovered (λ i. (c.type_inv.area i).fits)
-    (rw c.in-Done.is at c.recover.ensures)
+    accepted_lists _ _ _ _ _ _ _ c.in-Ok.recovered (λ i. (c.type_inv.area i).fits) (rw c.in-Ok.is at c.recover.ensures)
 
-pub returns-in-Refused : goal.returns-in-Refused
+pub returns-in-Err : goal.returns-in-Err
 unfolding replay_of
-returns-in-Refused c =
+returns-in-Err c =
     let f = c.fits in
-    rw (← f.ensures, c.if-not-fits.false, ← c.recover.ensures, c.in-Refused.is, c.leave_table.ensures)
+    rw (← f.ensures, c.if-not-fits.false, ← c.recover.ensures, c.in-Err.is, c.leave_table.ensures)
 
-pub returns-in-Done : goal.returns-in-Done
+pub returns-in-Ok : goal.returns-in-Ok
 unfolding replay_of
-returns-in-Done c =
+returns-in-Ok c =
     let f = c.fits in
     rw (← f.ensures, c.if-not-fits.false)
     (c.concluded.ensures
-    ∙ replays _ _ _ _ _ _ _ c.in-Done.recovered (λ i. (c.type_inv.area i).fits) (rw c.in-Done.is at c.recover.ensures) c.args.table.now _ _ _ _ c.replay-set.ensures c.replay-set.auto.table)
+    ∙ replays _ _ _ _ _ _ _ c.in-Ok.recovered (λ i. (c.type_inv.area i).fits) (rw c.in-Ok.is at c.recover.ensures) c.args.table.now _ _ _ _ c.replay-set.ensures c.replay-set.auto.table)

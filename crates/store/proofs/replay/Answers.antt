@@ -9,12 +9,6 @@ use Rattle.chains.specs.Link.{Lent}
 use Rattle.store.proofs.Listings.{lent_linked, lent_ran, unlinked}
 use Rattle.store.proofs.replay.Goals as goal
 
-pub slice_bounds-apply_transactions-end-2 : goal.slice_bounds-apply_transactions-end-2
-slice_bounds-apply_transactions-end-2 c = sym (length-take-le _ _ (omega (arith, c.requires.entries_inside, c.link.auto.entries)))
-
-pub slice_bounds-apply_transactions-end-4 : goal.slice_bounds-apply_transactions-end-4
-slice_bounds-apply_transactions-end-4 c = sym (length-take-le _ _ (omega (arith, c.requires.transactions_inside, c.link.auto.transactions)))
-
 pub apply_transactions-set-requires : goal.apply_transactions-set-requires
 apply_transactions-set-requires c = (lent_linked _ _ _ _ _ c.requires _ _ c.link.ensures, c.clear.ensures ∙ ap (λ (v : ℕ). replicate v 0) (sym c.clear.auto.s))
 

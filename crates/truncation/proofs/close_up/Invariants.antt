@@ -1,12 +1,8 @@
 -- `close_up` meets its contract. The invariant: the kept records that are left, stored behind those that stand closed up,
 -- make what all of them make at the front.
 -- Assumes nothing.
-use Prim.Native.Nat.{◌-◌}
 use Rattle.truncation.proofs.Closing.{Closing}
 use Rattle.truncation.proofs.close_up.Given as goal
 
 abbrev pub invariant-loop-k : goal.invariant-loop-k
 invariant-loop-k l = Closing l.area l.initial.directory l.used l.checkpoint l.directory l.kept l.k
-
-abbrev pub decreases-loop-k : goal.decreases-loop-k
-decreases-loop-k l = l.used - l.k

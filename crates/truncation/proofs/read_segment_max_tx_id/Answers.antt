@@ -1,5 +1,6 @@
 -- `read_segment_max_tx_id` meets its contract.
 -- Assumes nothing.
+use mathlib.Core.Logic.{⊎_elim}
 use mathlib.Core.Path.{sym, ◌∙◌}
 use native.Mathlib.Omega.{arith}
 use Rattle.scan.specs.Highest.{highest_of}
@@ -32,10 +33,8 @@ pub loop-entry-preserved : goal.loop-entry-preserved
 loop-entry-preserved c = let t = passing_undecodable _ _ _ (sym c.scan_step.ensures ∙ c.in-Undecodable.is) in omega (arith, t.same, c.loop-entry.invariant)
 
 pub returns-in-End : goal.returns-in-End
-returns-in-End c = omega (arith, highest_end _ _ (sym c.scan_step.ensures ∙ c.in-End.is), c.loop-entry.invariant)
-
-pub returns-in-Torn : goal.returns-in-Torn
-returns-in-Torn c = omega (arith, highest_partial _ _ (sym c.scan_step.ensures ∙ c.in-Torn.is), c.loop-entry.invariant)
-
-pub returns-in-WrongChecksum : goal.returns-in-WrongChecksum
-returns-in-WrongChecksum c = omega (arith, highest_wrong _ _ (sym c.scan_step.ensures ∙ c.in-WrongChecksum.is), c.loop-entry.invariant)
+returns-in-End c =
+    let e = sym c.scan_step.ensures in
+    let none =
+    ⊎_elim (λ q. highest_end _ _ (e ∙ q)) (λ q. ⊎_elim (λ q. highest_partial _ _ (e ∙ q)) (λ q. highest_wrong _ _ (e ∙ q)) q) c.in-End.is in
+    omega (arith, none, c.loop-entry.invariant)

@@ -3,11 +3,11 @@
 use Rattle.chains.specs.Link.{link_one}
 use Rattle.chains.proofs.chain.link_one.Goals as goal
 
-pub returns-in-At : goal.returns-in-At
+pub returns-in-Ok : goal.returns-in-Ok
 unfolding link_one
-returns-in-At c =
-    rw (← c.entry_at-number.ensures, ← c.find.ensures, c.in-At.is, c.put_spare-in-At.ensures, c.put_spare.ensures, c.spare-first.ensures)
+returns-in-Ok c =
+    rw (← c.entry_at-number.ensures, ← c.find.ensures, c.in-Ok.is, c.put_spare_of-in-Ok.ensures, c.put_spare_of.ensures, c.spare_of-first.ensures)
 
-pub returns-in-Gap : goal.returns-in-Gap
+pub returns-in_default : goal.returns-in_default
 unfolding link_one
-returns-in-Gap c = rw (← c.entry_at-number.ensures, ← c.find.ensures, c.in-Gap.is)
+returns-in_default c = rw (← c.entry_at-number.ensures, ← c.find.ensures, c.in_default.is)

@@ -1,21 +1,17 @@
 -- `chains::chain::unlink_list` meets its contract.
-use mathlib.Core.Path.{◌≡◌, refl, ◌∙◌}
-use native.Mathlib.Omega.{arith}
+-- Assumes nothing.
+use Rattle.std.proofs.Common.{◌≡◌, ◌∙◌, arith}
 use Rattle.chains.proofs.Turns.{unlink_turn}
 use Rattle.chains.specs.Link.{unlink_all}
 use Rattle.chains.proofs.chain.unlink_list.Goals as goal
 
-pub loop-k-init : goal.loop-k-init
-loop-k-init c = (refl, refl)
-
 pub loop-k-preserved : goal.loop-k-preserved
-loop-k-preserved c =
-    let a = c.args in
+loop-k-preserved g c =
     let l = c.loop-k in
-    (omega arith, rw c.put_spare.ensures (unlink_turn a.size a.offset l.s l.k (omega arith) ∙ l.invariant.1))
+    rw c.put_spare_of.ensures (unlink_turn g.R.Record.SIZE g.R.SpareRecord.SPARE l.s l.k (omega arith) ∙ l.invariant)
 
 pub returns : goal.returns
 unfolding unlink_all
-returns c =
+returns g c =
     let e : c.loop-k.k ≡ 0 = omega arith in
-    rw e at c.loop-k.invariant.1
+    rw e at c.loop-k.invariant

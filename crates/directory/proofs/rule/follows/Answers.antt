@@ -1,18 +1,17 @@
 -- `directory::rule::follows` meets its contract, case by case of what stands before.
 -- Assumes nothing.
-use borrow.Author.Tests.{le-ltb, lt-ltb}
+use native.Mathlib.Omega.{arith}
 use Rattle.directory.specs.Rule.{follows_of}
 use Rattle.directory.proofs.rule.follows.Goals as goal
 
-pub returns-then-segment-id : goal.returns-then-segment-id
+pub returns-in-None : goal.returns-in-None
 unfolding follows_of
-returns-then-segment-id c = rw (c.in-Segment.is, le-ltb _ _ c.if-segment-id.true)
+returns-in-None c = grind arith
 
-pub returns-in-NoSegment : goal.returns-in-NoSegment
+pub returns-then-last-segment : goal.returns-then-last-segment
 unfolding follows_of
-returns-in-NoSegment c = rw c.in-NoSegment.is c.lies.ensures
+returns-then-last-segment c = grind arith
 
-pub returns-else-segment-id : goal.returns-else-segment-id
+pub returns-else-last-segment : goal.returns-else-last-segment
 unfolding follows_of
-returns-else-segment-id c =
-    rw (c.in-Segment.is, lt-ltb _ _ c.if-segment-id.false) c.lies-in-Segment.ensures
+returns-else-last-segment c = grind arith

@@ -2,7 +2,7 @@
 -- last one tested, exactly if the directory keeps it.
 -- Assumes nothing.
 use mathlib.Core.Path.{◌≡◌}
-use Prim.Native.Nat.{◌-◌, ◌*◌, ◌≤◌}
+use Prim.Native.Nat.{◌-◌, ◌*◌}
 use lib.ListN.{drop}
 use Rattle.directory.specs.Record.{records_of}
 use Rattle.directory.specs.Rule.{rule_from, directory_rule}
@@ -10,7 +10,4 @@ use Rattle.directory.proofs.rule.keeps_rule.Given as goal
 
 abbrev pub invariant-loop-k : goal.invariant-loop-k
 invariant-loop-k l =
-    (l.k ≤ l.used) × (rule_from l.area l.last (records_of (l.used - l.k) (drop (24 * l.k) l.directory)) ≡ directory_rule l.area l.directory l.used)
-
-abbrev pub decreases-loop-k : goal.decreases-loop-k
-decreases-loop-k l = l.used - l.k
+    rule_from l.area l.last (records_of (l.used - l.k) (drop (24 * l.k) l.directory)) ≡ directory_rule l.area l.directory l.used

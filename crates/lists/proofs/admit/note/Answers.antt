@@ -6,12 +6,12 @@ use Rattle.lists.specs.Admit.{note_of}
 use Rattle.lists.proofs.admit.note.Goals as goal
 
 pub begin_at-requires : goal.begin_at-requires
-begin_at-requires c = omega (arith, halve_within_gap _ _ _ (sym c.find.ensures ∙ c.in-Gap.is))
+begin_at-requires c = omega (arith, halve_within_gap _ _ _ (sym c.find.ensures ∙ c.in-Err.is))
 
-pub returns-in-At : goal.returns-in-At
+pub returns-in-Ok : goal.returns-in-Ok
 unfolding note_of
-returns-in-At c = rw (← c.find.ensures, c.in-At.is, c.note_at.ensures)
+returns-in-Ok c = rw (← c.find.ensures, c.in-Ok.is, c.note_at.ensures)
 
-pub returns-in-Gap : goal.returns-in-Gap
+pub returns-in-Err : goal.returns-in-Err
 unfolding note_of
-returns-in-Gap c = rw (← c.find.ensures, c.in-Gap.is) c.begin_at.ensures
+returns-in-Err c = rw (← c.find.ensures, c.in-Err.is) c.begin_at.ensures

@@ -1,29 +1,30 @@
 -- `names::decimal::parse` meets its contract. The invariant: the bytes that are left, read after v, are the whole text's number.
+-- Assumes nothing.
 use mathlib.Core.Path.{sym, ◌∙◌}
-use Rattle.names.proofs.Numerals.{number_start, number_none, read_turn, read_stop, read_end}
+use borrow.Author.Tests.{eqb-true, eqb-false}
 use native.Mathlib.Omega.{arith}
+use Rattle.names.proofs.Numerals.{number_start, number_none, read_turn, read_stop, read_end}
 use Rattle.names.proofs.decimal.parse.Goals as goal
 
-pub returns-then-text-eq0 : goal.returns-then-text-eq0
-returns-then-text-eq0 c = number_none _ c.if-text-eq0.true
+pub returns-then-is_empty : goal.returns-then-is_empty
+returns-then-is_empty c = number_none _ (eqb-true _ _ (sym c.is_empty.ensures ∙ c.if-is_empty.true))
 
-pub loop-i-init : goal.loop-i-init
-loop-i-init c = (omega arith, omega arith, number_start _ (omega arith))
+pub loop-byte-init : goal.loop-byte-init
+loop-byte-init c =
+    let some = eqb-false _ _ (sym c.is_empty.ensures ∙ c.if-is_empty.false) in
+    (omega arith, number_start _ (omega arith))
 
-pub returns-in_default : goal.returns-in_default
-returns-in_default c =
-    let a = c.args in
-    let l = c.loop-i in
-    read_stop a.text.now l.v l.i (omega arith) (sym c.in_default.is ∙ c.with_digit.ensures) ∙ l.invariant.2
+pub returns-in_err-v : goal.returns-in_err-v
+returns-in_err-v c =
+    let l = c.loop-byte in
+    c.from_residual.ensures ∙ read_stop c.args.text.now l.v l.byte-index c.loop-byte-test.true c.in_err-v.ensures ∙ l.invariant.1
 
-pub loop-i-preserved : goal.loop-i-preserved
-loop-i-preserved c =
-    let a = c.args in
-    let l = c.loop-i in
-    (omega arith, omega arith, read_turn a.text.now l.v l.i _ (omega arith) (sym c.in-Value.is ∙ c.with_digit.ensures) ∙ l.invariant.2)
+pub loop-byte-preserved : goal.loop-byte-preserved
+loop-byte-preserved c =
+    let l = c.loop-byte in
+    (omega arith, read_turn c.args.text.now l.v l.byte-index _ c.loop-byte-test.true c.in_ok-v.ensures ∙ l.invariant.1)
 
 pub returns : goal.returns
 returns c =
-    let a = c.args in
-    let l = c.loop-i in
-    read_end a.text.now l.v l.i (omega arith) (omega arith) ∙ l.invariant.2
+    let l = c.loop-byte in
+    read_end c.args.text.now l.v l.byte-index (omega arith) (omega arith) ∙ l.invariant.1

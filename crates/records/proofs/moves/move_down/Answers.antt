@@ -5,9 +5,6 @@ use borrow.Author.Tests.{leb-true}
 use Rattle.records.specs.Moves.{moved_down}
 use Rattle.records.proofs.moves.move_down.Goals as goal
 
-pub move_bytes_down-requires : goal.move_bytes_down-requires
-move_bytes_down-requires c = leb-true _ _ (sym c.lie_in.ensures ∙ c.if-lie_in.true)
-
 pub returns-then-lie_in : goal.returns-then-lie_in
 unfolding moved_down
 returns-then-lie_in c =

@@ -5,9 +5,6 @@ use borrow.Author.Tests.{leb-true}
 use Rattle.records.specs.Moves.{moved_up}
 use Rattle.records.proofs.moves.move_up.Goals as goal
 
-pub move_bytes_up-requires : goal.move_bytes_up-requires
-move_bytes_up-requires c = leb-true _ _ (sym c.lie_in.ensures ∙ c.if-lie_in.true)
-
 pub returns-then-lie_in : goal.returns-then-lie_in
 unfolding moved_up
 returns-then-lie_in c =

@@ -8,9 +8,6 @@ use Rattle.directory.proofs.Sound.{sound_ends, sound_says}
 use Rattle.recovery.proofs.Reaches.{reading_starts, reading_part, reading_ends}
 use Rattle.recovery.proofs.read.read_log.Goals as goal
 
-pub loop-k-init : goal.loop-k-init
-loop-k-init c = (reading_starts _ _ _ _ refl refl, omega arith)
-
 pub overflow_add-end : goal.overflow_add-end
 overflow_add-end c =
     let h : c.loop-k.k < c.args.used = omega arith in
@@ -32,20 +29,13 @@ read_segment_entries-progress-requires c =
     let most = (sound_says _ _ _ c.requires).area in
     let r = c.record_at-segment.result in
     let s = sound_says _ _ _ c.requires in
-    let i = c.loop-k.invariant.0 in
+    let i = c.loop-k.invariant in
     (omega (arith, ends, most, length-take (r.start + r.length - r.start) (drop r.start c.args.area.now)), omega (arith, i.partial, s.used, s.directory), omega (arith, i.checksum, s.used, s.directory))
 
 pub loop-k-preserved : goal.loop-k-preserved
 loop-k-preserved c =
-    let i = c.loop-k.invariant in
     let r = c.record_at-segment in
-    (reading_part _ _ _ _ _ _ (omega arith) r.result r.ensures i.0 _ c.read_segment_entries-progress.ensures, omega arith)
-
-pub shape_of-entries : goal.shape_of-entries
-shape_of-entries c = c.loop-k.invariant.0.entries
-
-pub shape_of-transactions : goal.shape_of-transactions
-shape_of-transactions c = c.loop-k.invariant.0.transactions
+    reading_part _ _ _ _ _ _ (omega arith) r.result r.ensures c.loop-k.invariant _ c.read_segment_entries-progress.ensures
 
 pub returns : goal.returns
-returns c = reading_ends _ _ _ _ _ _ (omega arith) c.loop-k.invariant.0
+returns c = reading_ends _ _ _ _ _ _ (omega arith) c.loop-k.invariant

@@ -1,14 +1,10 @@
 -- `read_log` meets its contract. The invariant: what is left of the log, read into the lists as they stand, comes to the whole
 -- log read into the lists at entry.
 -- Assumes nothing.
-use Prim.Native.Nat.{◌-◌, ◌≤◌}
 use Rattle.recovery.specs.Reach.{reached, unread}
 use Rattle.recovery.proofs.Reaches.{ReadingOn}
 use Rattle.recovery.proofs.read.read_log.Given as goal
 
 abbrev pub invariant-loop-k : goal.invariant-loop-k
 invariant-loop-k l =
-    ReadingOn (reached l.initial.entries l.initial.transactions unread) (reached l.entries l.transactions l.progress) l.area l.directory l.used l.k × (l.k ≤ l.used)
-
-abbrev pub decreases-loop-k : goal.decreases-loop-k
-decreases-loop-k l = l.used - l.k
+    ReadingOn (reached l.initial.entries l.initial.transactions unread) (reached l.entries l.transactions l.progress) l.area l.directory l.used l.k

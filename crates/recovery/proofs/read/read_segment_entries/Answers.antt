@@ -7,15 +7,6 @@ use Rattle.recovery.proofs.Reaches.{reach_ended, going_on}
 use Rattle.recovery.proofs.Ends.{not_entry}
 use Rattle.recovery.proofs.read.read_segment_entries.Goals as goal
 
-pub loop-entry-init : goal.loop-entry-init
-loop-entry-init c = record { same = refl; entries = refl; transactions = refl }
-
-pub shape_of-entries-in_default : goal.shape_of-entries-in_default
-shape_of-entries-in_default c = c.loop-entry.invariant.entries
-
-pub shape_of-transactions-in_default : goal.shape_of-transactions-in_default
-shape_of-transactions-in_default c = c.loop-entry.invariant.transactions
-
 pub returns-in_default : goal.returns-in_default
 unfolding read_segment
 returns-in_default c =

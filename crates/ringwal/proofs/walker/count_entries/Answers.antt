@@ -6,41 +6,41 @@ use Rattle.scan.specs.Step.{step_at}
 use Rattle.scan.specs.declared.Step.{Step}
 use Rattle.scan.specs.declared.Step.TheVariants.{Entry}
 use Rattle.scan.proofs.Steps.{step_entry}
-use Rattle.recovery.proofs.Reaches.{is_entry}
 use Rattle.recovery.proofs.Ends.{not_entry}
-use Rattle.ringwal.specs.Walker.{offset_after, walked_at}
-use Rattle.ringwal.specs.declared.walker.Walked.{Walked}
+use Rattle.ringwal.specs.Walker.{offset_after, stepped}
+use Rattle.ringwal.specs.declared.walker.SegmentWalker.{SegmentWalker}
 use Rattle.ringwal.proofs.Walks.{counting_starts, counting_on, counting_fits, counting_ends}
 use borrow.Author.Rules.{rules}
 use Rattle.ringwal.proofs.walker.count_entries.Goals as goal
 
 pub loop-count-init : goal.loop-count-init
-loop-count-init c = counting_starts _
-
-pub returns-in_default : goal.returns-in_default
-unfolding walked_at
-returns-in_default c =
-    let l = c.loop-count in
-    let w = c.walk_at-walked in
-    let n = not_entry w.result.step c.in_default.not-Entry in
-    counting_ends _ l.at l.count l.invariant (ap (λ (v : Walked). is_entry v.step) (sym w.ensures) ∙ n)
+loop-count-init c = (rw c.new-walker.ensures.1 (counting_starts _), rw c.new-walker.ensures.0)
 
 -- what stands at the offset, and where the walk goes on
-stepping : (c : goal.In-Entry) → step_at c.args.segment.now c.loop-count.at ≡ Entry c.in-Entry.entry c.in-Entry.payload
-unfolding walked_at
-stepping c = ap (λ (v : Walked). v.step) (sym c.walk_at-walked.ensures) ∙ c.in-Entry.is
+stepping : (c : goal.In-Entry) → step_at c.args.segment.now c.loop-count.walker.at ≡ Entry c.in-Entry.entry c.in-Entry.payload
+stepping c = rw c.loop-count.invariant.1 at (sym c.step.ensures.0 ∙ c.in-Entry.is)
 
-going : (c : goal.In-Entry) → c.walk_at-walked.result.at ≡ end_of c.in-Entry.payload
-unfolding walked_at
+going : (c : goal.In-Entry) → c.step.new.self.at ≡ end_of c.in-Entry.payload
+unfolding stepped
 going c =
-    ap (λ (v : Walked). v.at) c.walk_at-walked.ensures
-    ∙ ap (λ (s : Step). offset_after s c.loop-count.at) (stepping c)
+    ap (λ (w : SegmentWalker). w.at) c.step.ensures.1
+    ∙ ap (λ (s : Step). offset_after s c.loop-count.walker.at) (sym c.step.ensures.0 ∙ c.in-Entry.is)
 
 pub overflow_add-count : goal.overflow_add-count
-overflow_add-count c = record { fits = counting_fits _ _ _ c.loop-count.invariant _ _ (stepping c) (search rules) }
+overflow_add-count c = record { fits = counting_fits _ _ _ c.loop-count.invariant.0 _ _ (stepping c) (search rules) }
 
 pub loop-count-smaller : goal.loop-count-smaller
 loop-count-smaller c = let t = step_entry _ _ _ _ (stepping c) in omega (arith, t.end, t.start, going c)
 
 pub loop-count-preserved : goal.loop-count-preserved
-loop-count-preserved c = rw (going c) (counting_on _ _ _ c.loop-count.invariant _ _ (stepping c))
+unfolding stepped
+loop-count-preserved c = (
+  rw (going c) (counting_on _ _ _ c.loop-count.invariant.0 _ _ (stepping c)),
+  ap (λ (w : SegmentWalker). w.segment.now) c.step.ensures.1 ∙ c.loop-count.invariant.1,
+)
+
+pub returns : goal.returns
+returns c =
+    let l = c.loop-count in
+    let n = not_entry c.step.result c.in_default.not-Entry in
+    counting_ends _ l.walker.at l.count l.invariant.0 (rw l.invariant.1 at (rw c.step.ensures.0 at n))

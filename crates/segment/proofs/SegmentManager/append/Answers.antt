@@ -5,19 +5,19 @@ use Rattle.segment.proofs.Logs.{encode_says, encode_refuses, entry_written, entr
 use Rattle.segment.proofs.SegmentManager.append.Goals as goal
 
 pub slice_bounds-data-end : goal.slice_bounds-data-end
-slice_bounds-data-end c = (rw c.in-Written.is at (encode_says _ _ _ _ _ _ (omega arith) c.encode.ensures)).0
+slice_bounds-data-end c = (rw c.in-Ok.is at (encode_says _ _ _ _ _ _ (omega arith) c.encode.ensures)).0
 
 pub slice_bounds-append_entry-end : goal.slice_bounds-append_entry-end
 slice_bounds-append_entry-end c =
-    let e = rw c.in-Written.is at (encode_says _ _ _ _ _ _ (omega arith) c.encode.ensures) in
+    let e = rw c.in-Ok.is at (encode_says _ _ _ _ _ _ (omega arith) c.encode.ensures) in
     sym (length-take-le _ _ e.0)
 
-pub returns-in-Written : goal.returns-in-Written
-returns-in-Written c =
-    let e = rw c.in-Written.is at (encode_says _ _ _ _ _ _ (omega arith) c.encode.ensures) in
+pub returns-in-Ok : goal.returns-in-Ok
+returns-in-Ok c =
+    let e = rw c.in-Ok.is at (encode_says _ _ _ _ _ _ (omega arith) c.encode.ensures) in
     c.append_entry.ensures ∙ entry_written _ _ _ _ _ _ _ _ _ e.1
 
-pub returns-in-NotWellFormed : goal.returns-in-NotWellFormed
-returns-in-NotWellFormed c =
-    let e = encode_refuses _ _ _ _ _ _ (omega arith) c.encode.ensures c.in-NotWellFormed.is in
+pub returns-in-Err : goal.returns-in-Err
+returns-in-Err c =
+    let e = encode_refuses _ _ _ _ _ _ _ (omega arith) c.encode.ensures c.in-Err.is in
     rw (c.refused.ensures, c.not_well_formed.ensures) (entry_not_written _ _ _ _ _ _ _ _ e)

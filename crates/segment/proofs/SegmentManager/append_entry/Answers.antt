@@ -1,21 +1,18 @@
 -- `SegmentManager::append_entry` meets its contract: refused or written, as the plan says.
 -- Assumes nothing.
 use Rattle.std.proofs.Common.{sym, ap, ◌∙◌}
+use Rattle.refusal.specs.Answer.{answer_of}
 use Rattle.plan.proofs.Plans.{append_fits}
-use Rattle.plan.specs.Plan.{planned_as}
 use Rattle.segment.specs.Writing.{append_entry_of}
 use Rattle.segment.proofs.SegmentManager.append_entry.Goals as goal
 
 pub write-requires : goal.write-requires
-write-requires c = append_fits _ _ _ _ _ _ (sym c.plan_append.ensures ∙ ap planned_as c.in-Write.is)
+write-requires c = append_fits _ _ _ _ _ _ (sym c.plan_append.ensures ∙ ap answer_of c.in-Ok.is)
 
-pub returns-in-Refused : goal.returns-in-Refused
+pub returns-in-Err : goal.returns-in-Err
 unfolding append_entry_of
-returns-in-Refused c =
-    rw (← c.plan_append.ensures, c.in-Refused.is, c.refused.ensures)
+returns-in-Err c = rw (← c.plan_append.ensures, c.in-Err.is, c.refused.ensures)
 
-pub returns-in-Write : goal.returns-in-Write
+pub returns-in-Ok : goal.returns-in-Ok
 unfolding append_entry_of
-returns-in-Write c =
-    rw (← c.plan_append.ensures, c.in-Write.is)
-    c.write.ensures
+returns-in-Ok c = rw (← c.plan_append.ensures, c.in-Ok.is) c.write.ensures

@@ -9,17 +9,17 @@ use Rattle.table.proofs.change.remove.Goals as goal
 pub close_up-requires : goal.close_up-requires
 close_up-requires c =
     let a = c.args in
-    omega (arith, found_at a.table.now a.n a.key.now _ (sym c.find.ensures ∙ c.in-At.is))
+    omega (arith, found_at a.table.now a.n a.key.now _ (sym c.find.ensures ∙ c.in-Ok.is))
 
 pub overflow_sub-result : goal.overflow_sub-result
 overflow_sub-result c =
     let a = c.args in
-    omega (arith, found_at a.table.now a.n a.key.now _ (sym c.find.ensures ∙ c.in-At.is))
+    omega (arith, found_at a.table.now a.n a.key.now _ (sym c.find.ensures ∙ c.in-Ok.is))
 
-pub returns-in-At : goal.returns-in-At
+pub returns-in-Ok : goal.returns-in-Ok
 unfolding remove_of
-returns-in-At c = rw (← c.find.ensures, c.in-At.is, c.close_up.ensures, ← c.used_in-used.ensures)
+returns-in-Ok c = rw (← c.find.ensures, c.in-Ok.is, c.close_up.ensures, ← c.used_in-used.ensures)
 
-pub returns-in-Gap : goal.returns-in-Gap
+pub returns-in-Err : goal.returns-in-Err
 unfolding remove_of
-returns-in-Gap c = rw (← c.find.ensures, c.in-Gap.is, ← c.used_in-used.ensures)
+returns-in-Err c = rw (← c.find.ensures, c.in-Err.is, ← c.used_in-used.ensures)

@@ -14,17 +14,17 @@ returns-then-not-fits c = rw (← c.fits.ensures, c.if-not-fits.true)
 pub put_row-requires : goal.put_row-requires
 put_row-requires c =
     let a = c.args in
-    (omega (arith, found_at a.table.now a.n a.key.now _ (sym c.find.ensures ∙ c.in-At.is)), fits_true _ (sym c.fits.ensures ∙ c.if-not-fits.false))
+    (omega (arith, found_at a.table.now a.n a.key.now _ (sym c.find.ensures ∙ c.in-Ok.is)), fits_true _ (sym c.fits.ensures ∙ c.if-not-fits.false))
 
 pub insert_at-requires : goal.insert_at-requires
 insert_at-requires c =
     let a = c.args in
-    (omega (arith, found_gap a.table.now a.n a.key.now _ (sym c.find.ensures ∙ c.in-Gap.is)), fits_true _ (sym c.fits.ensures ∙ c.if-not-fits.false))
+    (omega (arith, found_gap a.table.now a.n a.key.now _ (sym c.find.ensures ∙ c.in-Err.is)), fits_true _ (sym c.fits.ensures ∙ c.if-not-fits.false))
 
-pub returns-in-At : goal.returns-in-At
+pub returns-in-Ok : goal.returns-in-Ok
 unfolding set_of
-returns-in-At c = rw (← c.fits.ensures, c.if-not-fits.false, ← c.find.ensures, c.in-At.is, c.put_row.ensures, ← c.used_in-used.ensures)
+returns-in-Ok c = rw (← c.fits.ensures, c.if-not-fits.false, ← c.find.ensures, c.in-Ok.is, c.put_row.ensures, ← c.used_in-used.ensures)
 
-pub returns-in-Gap : goal.returns-in-Gap
+pub returns-in-Err : goal.returns-in-Err
 unfolding set_of
-returns-in-Gap c = rw (← c.fits.ensures, c.if-not-fits.false, ← c.find.ensures, c.in-Gap.is, ← c.used_in-used.ensures) c.insert_at.ensures
+returns-in-Err c = rw (← c.fits.ensures, c.if-not-fits.false, ← c.find.ensures, c.in-Err.is, ← c.used_in-used.ensures) c.insert_at.ensures
