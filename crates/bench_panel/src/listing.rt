@@ -1,7 +1,6 @@
 // The records of the lists that recovery leaves, and of the table that replay leaves.
-ghost use Rattle.std.specs.Prelude.{◌+◌, ◌*◌, ◌≤◌, length};
-
 use crate::{hex, printing};
+use records::record;
 use records::record::Record;
 use std::io;
 use table::row::RowRecord;
@@ -50,24 +49,15 @@ fn print_set(rt: &impl Print, key: &[u8], value: &[u8]) -> io::Result<()> {
     printing::print_bytes(rt, b"", value)
 }
 
-// The part with this place and length. What a length says beyond the table's end is not there.
-fn part(table: &[u8], at: usize, len: usize) -> &[u8]
-    requires { at ≤ length table.now }
-{
-    let rest = &table[at..];
-    rest.get(..len).unwrap_or(rest)
-}
-
-fn print_row(rt: &impl Print, table: &[u8], k: usize) -> io::Result<()>
-    requires { 320 * (k + 1) ≤ length table.now }
-{
-    let row = table::row::row_at(table, k);
+// The record at the front of the rows. A value's length that is false runs on into the records behind it; what it says beyond
+// the table's end is not there.
+fn print_row(rt: &impl Print, rows: &[u8]) -> io::Result<()> {
+    let row = RowRecord::read(rows);
     if row.mark == table::row::LIVE {
-        let at = RowRecord::SIZE * k;
         print_set(
             rt,
-            part(table, at + table::row::KEY, row.key_len),
-            part(table, at + table::row::VALUE, row.value_len),
+            fields::part(rows, table::row::KEY, row.key_len),
+            fields::part(rows, table::row::VALUE, row.value_len),
         )?;
     }
     Ok(())
@@ -76,7 +66,7 @@ fn print_row(rt: &impl Print, table: &[u8], k: usize) -> io::Result<()>
 // `set KEY VALUE` for each live record.
 pub(crate) fn print_rows(rt: &impl Print, table: &[u8]) -> io::Result<()> {
     for k in 0..table.len() / RowRecord::SIZE {
-        print_row(rt, table, k)?;
+        print_row(rt, record::bytes_from::<RowRecord>(table, k))?;
     }
     Ok(())
 }

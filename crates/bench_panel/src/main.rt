@@ -5,8 +5,6 @@
 // line. A read or a write that fails is the panel's error, and ends the script.
 #![tactic(auto)]
 
-ghost use Rattle.std.specs.Prelude.{◌≡◌, length};
-
 mod calls;
 mod command;
 mod fault;
@@ -26,6 +24,9 @@ use std::io;
 
 const MOST_SCRIPT: usize = 1_048_576;
 
+// One byte more than may come, so that a longer script shows.
+const SCRIPT: usize = MOST_SCRIPT + 1;
+
 // Answers line K, which counts all lines from 1.
 fn answer(rt: &impl Print, panel: &mut Panel, k: usize, text: &[u8]) -> io::Result<()> {
     match panel.turn(rt, text) {
@@ -43,25 +44,17 @@ fn run(rt: &impl Print, script: &[u8], panel: &mut Panel) -> io::Result<()> {
     Ok(())
 }
 
-// One byte more than may come, so that a longer script shows. The contract gives the length, which lending an array as a
-// slice needs.
-fn script_room() -> [u8; 1_048_577]
-    ensures { 1_048_577 ≡ length result }
-{
-    [0; MOST_SCRIPT + 1]
-}
-
 fn main(rt: HostRuntime) -> io::Result<()> {
-    let mut script = script_room();
+    let mut script = console::room::<SCRIPT>();
     let n = console::read_full(&mut rt.stdin(), &mut script)?;
     if MOST_SCRIPT < n {
         return console::print_refused(&rt, Refusal::InvalidBuffer);
     }
-    let mut area = [0; 1_048_576];
-    let mut directory = [0; 98_304];
-    let mut entries = [0; 524_288];
-    let mut transactions = [0; 98_304];
-    let mut table = [0; 327_680];
+    let mut area = [0; panel::AREA];
+    let mut directory = [0; panel::DIRECTORY];
+    let mut entries = [0; panel::ENTRIES];
+    let mut transactions = [0; panel::TRANSACTIONS];
+    let mut table = [0; panel::TABLE];
     // The writer is new, and all is lent.
     let mut panel = Panel {
         log: Log {

@@ -1,10 +1,22 @@
 // What the panel keeps from line to line, and the answer to a line.
 ghost use Rattle.std.specs.Prelude.{◌≤◌};
+ghost use Rattle.bench_panel.specs.declared.panel.TheConstants.{AREA, DIRECTORY, ENTRIES, TRANSACTIONS, TABLE};
 
 use crate::command::{Call, Command};
 use crate::fault::Fault;
 use crate::{command, hex, kept, whole};
 use segment::SegmentManager;
+
+// How many bytes the buffers have.
+pub(crate) const AREA: usize = 1_048_576;
+
+pub(crate) const DIRECTORY: usize = 98_304;
+
+pub(crate) const ENTRIES: usize = 524_288;
+
+pub(crate) const TRANSACTIONS: usize = 98_304;
+
+pub(crate) const TABLE: usize = 327_680;
 
 // How many bytes of each buffer are lent, from its first: no more than it has.
 #[derive(Clone, Copy)]
@@ -14,21 +26,21 @@ pub(crate) struct Lent {
     pub(crate) entries: usize,
     pub(crate) transactions: usize,
     pub(crate) table: usize,
-    ghost area_within: { area ≤ 1048576 },
-    ghost directory_within: { directory ≤ 98304 },
-    ghost entries_within: { entries ≤ 524288 },
-    ghost transactions_within: { transactions ≤ 98304 },
-    ghost table_within: { table ≤ 327680 },
+    ghost area_within: { area ≤ AREA },
+    ghost directory_within: { directory ≤ DIRECTORY },
+    ghost entries_within: { entries ≤ ENTRIES },
+    ghost transactions_within: { transactions ≤ TRANSACTIONS },
+    ghost table_within: { table ≤ TABLE },
 }
 
 impl Lent {
     // All of each buffer.
     pub(crate) const MOST: Lent = Lent {
-        area: 1_048_576,
-        directory: 98_304,
-        entries: 524_288,
-        transactions: 98_304,
-        table: 327_680,
+        area: AREA,
+        directory: DIRECTORY,
+        entries: ENTRIES,
+        transactions: TRANSACTIONS,
+        table: TABLE,
     };
 
     // So many bytes of area, directory, entry list, transactions and table, if they have them.
@@ -63,11 +75,11 @@ pub(crate) struct Log {
 pub(crate) struct Panel<'a> {
     pub(crate) log: Log,
     pub(crate) lent: Lent,
-    pub(crate) area: &'a mut [u8; 1_048_576],
-    pub(crate) directory: &'a mut [u8; 98_304],
-    pub(crate) entries: &'a mut [u8; 524_288],
-    pub(crate) transactions: &'a mut [u8; 98_304],
-    pub(crate) table: &'a mut [u8; 327_680],
+    pub(crate) area: &'a mut [u8; AREA],
+    pub(crate) directory: &'a mut [u8; DIRECTORY],
+    pub(crate) entries: &'a mut [u8; ENTRIES],
+    pub(crate) transactions: &'a mut [u8; TRANSACTIONS],
+    pub(crate) table: &'a mut [u8; TABLE],
 }
 
 // The lent parts of the buffers.

@@ -1,9 +1,9 @@
-// What the programs share: a text cut at a byte, an input read into a buffer, and lines on standard output. No contract
-// can say what is written, so the functions that print promise only that they end. Their error is that of the write that
-// failed, and what was written before it stays.
+// What the programs share: a text cut at a byte, a room of zeros, an input read into a buffer, and lines on standard
+// output. No contract can say what is written, so the functions that print promise only that they end. Their error is
+// that of the write that failed, and what was written before it stays.
 #![tactic(auto)]
 
-ghost use Rattle.std.specs.Prelude.{◌≡◌, ◌==◌, ◌<◌, ◌≤◌, length, take, IfOk};
+ghost use Rattle.std.specs.Prelude.{◌≡◌, ◌==◌, ◌<◌, ◌≤◌, length, take, replicate, IfOk};
 ghost use Rattle.std.specs.List.{position};
 ghost use Rattle.std.specs.Io.{ReadsAtMost};
 ghost use Rattle.std.specs.Io.KnownBytes.{Consumes, IsAtEnd};
@@ -44,6 +44,14 @@ pub fn cut_at(text: &[u8], byte: u8) -> Cut
         before,
         passed: text.len().min(before + 1),
     }
+}
+
+// So many zeros. The second fact follows from the first, and lets a caller lend them as a slice without a proof of its own.
+pub fn room<const N: usize>() -> [u8; N]
+    ensures zeros { result ≡ replicate N 0 }
+    ensures long { N ≡ length result }
+{
+    [0; N]
 }
 
 // Reads until the buffer is full or the input ends, and returns how many bytes it put at the buffer's start: those that

@@ -44,8 +44,7 @@ fn key_at(payload: &[u8], at: usize) -> Option<Place>
     ensures { result ≡ key_at payload.now at }
 {
     let key = part_at(payload, at)?;
-    let end = key.start + key.len;
-    utf8::is_utf8(&payload[key.start..end]).then_some(key)
+    utf8::is_utf8(fields::part(payload, key.start, key.len)).then_some(key)
 }
 
 // An insert's and a delete's parts, and an update's first two.

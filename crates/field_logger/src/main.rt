@@ -6,21 +6,30 @@
 // write that fails is the program's error, and ends the logging.
 #![tactic(auto)]
 
-mod buffers;
 mod logger;
 
 use logger::Logger;
 use refusal::Refusal;
 use std::io;
 
+const MOST_INPUT: usize = 262_144;
+
+// One byte more than may come, so that a longer input shows.
+const INPUT: usize = MOST_INPUT + 1;
+
+const AREA: usize = 131_072;
+
+// Two records.
+const DIRECTORY: usize = 48;
+
 fn main(rt: HostRuntime) -> io::Result<()> {
-    let mut input = buffers::input();
+    let mut input = console::room::<INPUT>();
     let n = console::read_full(&mut rt.stdin(), &mut input)?;
-    if buffers::MOST_INPUT < n {
+    if MOST_INPUT < n {
         return console::print_refused(&rt, Refusal::InvalidBuffer);
     }
-    let mut area = buffers::area();
-    let mut directory = buffers::directory();
+    let mut area = console::room::<AREA>();
+    let mut directory = console::room::<DIRECTORY>();
     let mut logger = Logger::open(&mut area, &mut directory);
     logger.log_lines(&rt, &input[..n])?;
     logger.print(&rt)

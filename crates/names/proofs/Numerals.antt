@@ -1,98 +1,88 @@
--- Laws of reading a number digit by digit.
+-- Reading a number: what std's `parse` says of a text, in the words of specs/Decimal.antt.
 -- Assumes nothing.
 use mathlib.Core.Path.{◌≡◌, refl, sym, ap, ◌∙◌}
-use mathlib.Core.Bool.{and-false}
+use mathlib.Core.Bool.{true}
 use mathlib.Core.List.{List, [], ◌∷◌}
-use mathlib.Core.Logic.{◌⊎◌, inl, inr, ⊎_elim}
-use Prim.Native.Nat.{ℕ, suc, ◌+◌, ◌-◌, ◌*◌, ◌^◌, ◌<◌, ◌≤◌}
-use native.Mathlib.Numerals.{add-one}
+use Prim.Native.Nat.{ℕ, zero, suc, ◌^◌, ◌<◌}
 use native.Mathlib.Omega.{arith}
-use borrow.Author.Tests.{lt-ltb, le-ltb, le-leb, lt-leb}
-use lib.Dec.{ltb}
-use lib.ListN.{length, get_or, drop, drop_of_length-le}
-use lib.Seq.{drop-cons}
+use borrow.Author.Tests.{lt-ltb}
+use lib.Dec.{ltb, eqb}
+use lib.ListN.{length}
+use denote.Ref.{Bor}
 use Rattle.fields.proofs.Cases.{case_b, tests}
-use Rattle.std.specs.Option.{SomeIff}
-use Rattle.std.specs.declared.option.Option.{Option}
+use Rattle.std.specs.Prelude.{MatchResult}
+use Rattle.std.specs.Result.{OkIff, result_ok}
+use Rattle.std.specs.Str.{IsAscii, IsUtf8}
+use Rattle.std.specs.Str.Parse.{AllDigits, ParsesUnsigned}
+use Rattle.std.proofs.Common.{rules}
+use Rattle.std.proofs.lemmas.Option.{none-some, same_Some}
+use Rattle.std.proofs.lemmas.Str.{IsUtf8-from_ascii}
+use Rattle.std.proofs.lemmas.Str.Parse.{IsNumeralModel, digit_from_value, numerals_by_fold, parse_plain, parse_plus}
 use Rattle.std.specs.declared.option.Option.TheVariants.{None, Some}
-use Rattle.names.specs.Decimal.{byte_of, all_digits, value_after, number_after, number_in}
-use Rattle.names.proofs.Digits.{value_grows}
+use Rattle.std.specs.declared.result.Result.{Result}
+use Rattle.std.specs.declared.result.Result.TheVariants.{Ok, Err}
+use Rattle.names.specs.Decimal.{all_digits, value_after, value_of, number_after, number_in}
+use Rattle.names.specs.Name.{without_plus}
 
--- ---- one byte more
+-- std's digits and their value are these
+numerals : IsNumeralModel (λ ds. all_digits ds ≡ true) value_of
+unfolding all_digits value_after
+numerals = numerals_by_fold _ (search rules) value_after (search rules)
 
-module _ (v b : ℕ) (bs : List ℕ) where
-  pub digit_low : b < byte_of 0 → number_after v (b ∷ bs) ≡ None
-  unfolding number_after all_digits
-  digit_low h = rw (lt-leb 48 b h)
+-- ---- a number, or none
 
-  pub digit_high : byte_of 9 < b → number_after v (b ∷ bs) ≡ None
-  unfolding number_after all_digits
-  digit_high h = rw (le-leb 48 b (omega arith), lt-leb b 57 h)
+pub number_digits : (ds : List ℕ) → 0 < length ds → all_digits ds ≡ true → value_of ds < 2 ^ 64 → number_in ds ≡ Some (value_of ds)
+unfolding number_in number_after
+number_digits [] l h k = absurd (omega arith)
+number_digits (b ∷ bs) l h k = rw (h, lt-ltb (value_of (b ∷ bs)) (2 ^ 64) k)
 
-  pub digit_over : 2 ^ 64 ≤ 10 * v + (b - byte_of 0) → number_after v (b ∷ bs) ≡ None
-  unfolding number_after value_after
-  digit_over h =
-      let w = 10 * v + (b - byte_of 0) in
-      rw (le-ltb (value_after w bs) (2 ^ 64) (omega (arith, value_grows w bs)), and-false)
+number_none : (ds : List ℕ) → ¬ ((all_digits ds ≡ true) × (0 < length ds) × (value_of ds < 2 ^ 64)) → None ≡ number_in ds
+unfolding number_in number_after
+number_none [] n = refl
+number_none (b ∷ bs) n =
+    case_b (all_digits (b ∷ bs))
+    (λ h.
+    case_b (ltb (value_of (b ∷ bs)) (2 ^ 64)) (λ k. absurd (n (h, omega arith, omega (arith, tests))))
+    (λ k. rw (h, k)))
+    (λ h. rw h)
 
-  pub digit_taken : byte_of 0 ≤ b → b ≤ byte_of 9 → number_after v (b ∷ bs) ≡ number_after (10 * v + (b - byte_of 0)) bs
-  unfolding number_after all_digits value_after
-  digit_taken h k = rw (le-leb 48 b h, le-leb b 57 k)
+module _ {E : Type 0} where
+  number_says : (ds : List ℕ) (r : Result ℕ E) → OkIff r ((all_digits ds ≡ true) × (0 < length ds) × (value_of ds < 2 ^ 64)) (value_of ds) → result_ok r ≡ number_in ds
+  number_says ds (Ok v) h = ap Some h.1 ∙ sym (number_digits ds h.0.1 h.0.0 h.0.2)
+  number_says ds (Err e) h = number_none ds h
 
-pub number_end : (v : ℕ) → v < 2 ^ 64 → number_after v [] ≡ Some v
-unfolding number_after all_digits value_after
-number_end v h = rw (lt-ltb v (2 ^ 64) h)
+  -- an optional `+`, then the number
+  pub parse_says : (text : List ℕ) (r : Result ℕ E) → ParsesUnsigned 64 10 text r → result_ok r ≡ number_in (without_plus text)
+  unfolding without_plus
+  parse_says [] r h = number_says [] r (parse_plain numerals 64 [] r h (λ e. omega arith))
+  parse_says (b ∷ bs) r h =
+      case_b (eqb b 43)
+      (λ q. rw q (number_says bs r (parse_plus numerals 64 (b ∷ bs) r h (omega (arith, tests)))))
+      (λ q. rw q (number_says (b ∷ bs) r (parse_plain numerals 64 (b ∷ bs) r h (λ e. omega (arith, tests)))))
 
--- one digit more, by std's checked sum
-pub digit_added : (v b x d : ℕ) (r : Option ℕ) → byte_of 0 ≤ b → b ≤ byte_of 9 → x ≡ v * 10 → d ≡ b - byte_of 0 → SomeIff r (x + d < 2 ^ 64) (x + d) → r ≡ number_after v (b ∷ [])
-digit_added v b x d None h k e f s =
-    let over : 2 ^ 64 ≤ x + d = omega arith in
-    sym (digit_over v b [] (omega arith))
-digit_added v b x d (Some y) h k e f s =
-    let w : y ≡ 10 * v + (b - 48) = omega (arith, s.1) in
-    ap Some w ∙ sym (number_end (10 * v + (b - 48)) (omega (arith, s.0))) ∙ sym (digit_taken v b [] h k)
+-- ---- a text that is not UTF-8 is no number
 
--- what one byte decides, it decides whatever follows
-one_byte : (v b : ℕ) → ((bs : List ℕ) → number_after v (b ∷ bs) ≡ None) ⊎ ((10 * v + (b - byte_of 0) < 2 ^ 64) × ((bs : List ℕ) → number_after v (b ∷ bs) ≡ number_after (10 * v + (b - byte_of 0)) bs))
-one_byte v b =
-    case_b (ltb b 48) (λ q. inl (λ bs. digit_low v b bs (omega (arith, tests))))
-    (λ q.
-    case_b (ltb 57 b) (λ r. inl (λ bs. digit_high v b bs (omega (arith, tests))))
-    (λ r.
-    case_b (ltb (10 * v + (b - 48)) (2 ^ 64))
-    (λ s. inr (omega (arith, tests), λ bs. digit_taken v b bs (omega (arith, tests)) (omega (arith, tests))))
-    (λ s. inl (λ bs. digit_over v b bs (omega (arith, tests))))))
+ascii_more : (b : ℕ) (bs : List ℕ) → b < 128 → IsAscii bs → IsAscii (b ∷ bs)
+ascii_more b bs h k zero = h
+ascii_more b bs h k (suc i) = k i
 
-number_turn : (v b next : ℕ) (bs : List ℕ) → Some next ≡ number_after v (b ∷ []) → number_after next bs ≡ number_after v (b ∷ bs)
-number_turn v b next bs e =
-    ⊎_elim (λ s. let z : ◌≡◌ {A = ℕ} 0 1 = cc (s []) in absurd (omega arith))
-    (λ s. let f : next ≡ 10 * v + (b - 48) = cc (s.1 [], number_end (10 * v + (b - 48)) s.0) in rw f (sym (s.1 bs)))
-    (one_byte v b)
+ascii_digits : (ds : List ℕ) → AllDigits 10 ds → IsAscii ds
+ascii_digits [] d i = omega arith
+ascii_digits (b ∷ bs) d i = ascii_more b bs (omega (arith, digit_from_value b d.0)) (ascii_digits bs d.1) i
 
-number_stop : (v b : ℕ) (bs : List ℕ) → None ≡ number_after v (b ∷ []) → None ≡ number_after v (b ∷ bs)
-number_stop v b bs e =
-    ⊎_elim (λ s. sym (s bs))
-    (λ s. let z : ◌≡◌ {A = ℕ} 0 1 = cc (s.1 [], number_end (10 * v + (b - 48)) s.0) in absurd (omega arith))
-    (one_byte v b)
+ascii_number : (text : List ℕ) → AllDigits 10 (without_plus text) → IsAscii text
+unfolding without_plus
+ascii_number [] d = ascii_digits [] d
+ascii_number (b ∷ bs) d =
+    case_b (eqb b 43) (λ q. ascii_more b bs (omega (arith, tests)) (ascii_digits bs (rw q at d)))
+    (λ q. ascii_digits (b ∷ bs) (rw q at d))
 
--- ---- the loop: v is the number so far, from i on
+-- what `from_utf8` says of these bytes
+module _ (text : List ℕ) {E : Type 0} (Q : E → Type 0) where
+  pub not_text : (r : Result (Bor (List ℕ)) E) → MatchResult r (λ s. (s.now ≡ text) × IsUtf8 text) (λ e. ¬ (IsUtf8 text) × Q e) → None ≡ result_ok r → None ≡ number_in (without_plus text)
+  not_text (Ok s) h e = absurd (none-some _ e)
+  not_text (Err x) h e = number_none (without_plus text) (λ n. h.0 (IsUtf8-from_ascii text (ascii_number text (numerals.to _ n.0))))
 
-pub number_start : (text : List ℕ) → 0 < length text → number_after 0 text ≡ number_in text
-unfolding number_in
-number_start [] h = absurd (omega arith)
-number_start (b ∷ bs) h = refl
-
-pub number_none : (text : List ℕ) → length text ≡ 0 → None ≡ number_in text
-unfolding number_in
-number_none [] h = refl
-number_none (b ∷ bs) h = absurd (omega arith)
-
-module _ (text : List ℕ) (v i : ℕ) where
-  pub read_turn : (next : ℕ) → i < length text → Some next ≡ number_after v (get_or text i 0 ∷ []) → number_after next (drop (i + 1) text) ≡ number_after v (drop i text)
-  read_turn next h e = rw (add-one, drop-cons text i 0 h) (number_turn v (get_or text i 0) next (drop (suc i) text) e)
-
-  pub read_stop : i < length text → None ≡ number_after v (get_or text i 0 ∷ []) → None ≡ number_after v (drop i text)
-  read_stop h e = rw (drop-cons text i 0 h) (number_stop v (get_or text i 0) (drop (suc i) text) e)
-
-  pub read_end : length text ≤ i → v < 2 ^ 64 → Some v ≡ number_after v (drop i text)
-  read_end h k = rw (drop_of_length-le text h, number_end v k)
+  pub same_text : (r : Result (Bor (List ℕ)) E) (s : Bor (List ℕ)) → MatchResult r (λ s. (s.now ≡ text) × IsUtf8 text) (λ e. ¬ (IsUtf8 text) × Q e) → Some s ≡ result_ok r → s.now ≡ text
+  same_text (Ok t) s h e = ap (λ (x : Bor (List ℕ)). x.now) (same_Some _ _ e) ∙ h.0
+  same_text (Err x) s h e = absurd (none-some _ (sym e))

@@ -1,11 +1,11 @@
 -- Laws of reading a name, and the round trips: a name that was written reads as its own id, and no other name is kept.
 -- Assumes nothing.
 use mathlib.Core.Path.{◌≡◌, refl, sym, ap, ◌∙◌}
-use mathlib.Core.Bool.{true, false, and-false, and-true, false≢true}
+use mathlib.Core.Bool.{true, false, and-false}
 use mathlib.Core.List.{List, [], ◌∷◌, ◌++◌}
 use Prim.Native.Nat.{ℕ, ◌+◌, ◌-◌, ◌^◌, ◌<◌, ◌≤◌}
 use native.Mathlib.Omega.{arith}
-use borrow.Author.Tests.{lt-ltb, le-leb}
+use borrow.Author.Tests.{le-leb}
 use lib.Dec.{leb, eqb}
 use lib.ListN.{length, take, drop, length-append}
 use lib.Seq.{take-append-le, take-append_seam, drop-append-le, drop-append_seam, drop-drop}
@@ -14,33 +14,15 @@ use Rattle.fields.proofs.Ordered.{same_is, same_true, same_self}
 use denote.Ref.{Bor}
 use Rattle.std.specs.Prelude.{nat_eq}
 use Rattle.std.specs.Cmp.Lexicographic.{pointwise}
-use Rattle.std.specs.Option.{MatchOption, option_copied, unwrap_or}
+use Rattle.std.specs.Option.{MatchOption, option_copied}
 use Rattle.std.proofs.lemmas.Option.{cond_some, none-some, same_Some}
 use Rattle.std.specs.declared.option.Option.{Option}
 use Rattle.std.specs.declared.option.Option.TheVariants.{None, Some}
 use Rattle.names.specs.declared.Parsed.{Parsed}
-use Rattle.names.specs.Decimal.{digits_of, padded, all_digits, value_of, number_after, number_in}
+use Rattle.names.specs.Decimal.{digits_of, padded, all_digits, value_of, number_in}
 use Rattle.names.specs.Name.{prefix, suffix, name_of, is_framed, between, text_of, without_plus, parsed_as, read_of}
 use Rattle.names.proofs.Digits.{length-padded, value_padded, all_padded}
-use Rattle.names.proofs.Numerals.{number_start}
-
--- ---- an optional `+`
-
-pub plus_says : (text : Bor (List ℕ)) (r : Option (Bor (List ℕ))) → MatchOption r (pointwise nat_eq (take 1 text.now) (43 ∷ []) ≡ false) (λ x. (pointwise nat_eq (take 1 text.now) (43 ∷ []) ≡ true) × (x.now ≡ drop 1 text.now) × (length x.now + 1 ≡ length text.now)) → (unwrap_or r text).now ≡ without_plus text.now
-unfolding without_plus
-plus_says text r = told r
-  where
-    absent : (s : List ℕ) → pointwise nat_eq (take 1 s) (43 ∷ []) ≡ false → s ≡ without_plus s
-    absent [] e = refl
-    absent (b ∷ bs) e = let f : eqb b 43 ≡ false = sym (and-true (eqb b 43)) ∙ e in rw f
-
-    dropped : (s x : List ℕ) → pointwise nat_eq (take 1 s) (43 ∷ []) ≡ true → x ≡ drop 1 s → x ≡ without_plus s
-    dropped [] x e f = absurd (false≢true e)
-    dropped (b ∷ bs) x e f = let g : eqb b 43 ≡ true = sym (and-true (eqb b 43)) ∙ e in rw g f
-
-    told : (r : Option (Bor (List ℕ))) → MatchOption r (pointwise nat_eq (take 1 text.now) (43 ∷ []) ≡ false) (λ x. (pointwise nat_eq (take 1 text.now) (43 ∷ []) ≡ true) × (x.now ≡ drop 1 text.now) × (length x.now + 1 ≡ length text.now)) → (unwrap_or r text).now ≡ without_plus text.now
-    told None e = absent text.now e
-    told (Some x) e = dropped text.now x.now e.0 e.1
+use Rattle.names.proofs.Numerals.{number_digits}
 
 -- ---- prefix and suffix
 
@@ -115,10 +97,6 @@ plus_digits (b ∷ bs) h =
     case_b (eqb b 43)
     (λ q. let e : b ≡ 43 = omega (arith, tests) in let f : false ≡ true = rw e at h in let z : ◌≡◌ {A = ℕ} 0 1 = cc in absurd (omega arith))
     (λ q. rw q)
-
-number_digits : (ds : List ℕ) → 0 < length ds → all_digits ds ≡ true → value_of ds < 2 ^ 64 → number_in ds ≡ Some (value_of ds)
-unfolding number_after
-number_digits ds l h k = rw (← number_start ds l, h, lt-ltb (value_of ds) (2 ^ 64) k)
 
 -- ---- the round trips
 

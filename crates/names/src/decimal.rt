@@ -1,7 +1,7 @@
-// Decimal digits: counted, written and read.
-ghost use Rattle.std.specs.Prelude.{◌≡◌, ◌+◌, ◌≤◌, [], ◌∷◌, length};
+// Decimal digits: counted and written.
+ghost use Rattle.std.specs.Prelude.{◌≡◌, ◌+◌, ◌≤◌, length};
 ghost use Rattle.std.proofs.lemmas.List.Edits.{sets};
-ghost use Rattle.names.specs.Decimal.{digits_of, padded, low_digits, number_after, number_in};
+ghost use Rattle.names.specs.Decimal.{digits_of, padded, low_digits};
 
 fn count(id: u64) -> usize
     ensures { result ≡ length (digits_of id) }
@@ -26,27 +26,4 @@ pub(crate) fn put(target: &mut [u8], at: usize, n: usize, id: u64)
         target[at + i] = b'0' + (rest % 10) as u8;
         rest /= 10;
     }
-}
-
-// The number with one digit more.
-fn with_digit(v: u64, byte: u8) -> Option<u64>
-    ensures { result ≡ number_after v (byte ∷ []) }
-{
-    if !byte.is_ascii_digit() {
-        return None;
-    }
-    v.checked_mul(10)?.checked_add(u64::from(byte - b'0'))
-}
-
-pub(crate) fn parse(text: &[u8]) -> Option<u64>
-    ensures { result ≡ number_in text.now }
-{
-    if text.is_empty() {
-        return None;
-    }
-    let mut v = 0;
-    for &byte in text {
-        v = with_digit(v, byte)?;
-    }
-    Some(v)
 }

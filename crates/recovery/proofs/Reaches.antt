@@ -6,7 +6,7 @@ use mathlib.Core.List.{List, [], ◌∷◌, ◌++◌}
 use Prim.Native.Nat.{ℕ, zero, suc, ◌+◌, ◌-◌, ◌*◌, ◌<◌, ◌≤◌}
 use native.Mathlib.Nat.{add-zero, add_assoc}
 use native.Mathlib.Omega.{arith}
-use lib.ListN.{length, take, drop}
+use lib.ListN.{length, drop}
 use Rattle.directory.specs.Image.{segment_bytes}
 use Rattle.directory.specs.Record.{record_at, records_of}
 use Rattle.directory.proofs.Records.{records_turn}
@@ -157,13 +157,6 @@ reading_goes start at area directory used k h g next e =
       partial = rw e (omega (arith, d, g.partial));
       checksum = rw e (omega (arith, d, g.checksum));
     }
-
--- the same of a segment by its bounds
-pub reading_part : (start at : Reached) (area directory : List ℕ) (used k : ℕ) → k < used → (r : SegmentRecord) → r ≡ record_at (drop (24 * k) directory) → ReadingOn start at area directory used k → (next : Reached) → next ≡ reach_segment at r.start (read_segment (take (r.start + r.length - r.start) (drop r.start area))) → ReadingOn start next area directory used (k + 1)
-unfolding segment_bytes
-reading_part start at area directory used k h r q g next e =
-    let l : r.start + r.length - r.start ≡ r.length = omega arith in
-    reading_goes start at area directory used k h g next (rw (l, q) at e)
 
 pub reading_ends : (start at : Reached) (area directory : List ℕ) (used k : ℕ) → used ≤ k → ReadingOn start at area directory used k → at ≡ reach_log start area (records_of used directory)
 unfolding reach_log records_of

@@ -99,10 +99,8 @@ pub(crate) fn read_log(
     };
     for k in 0..used {
         let segment = directory::record::record_at(directory, k);
-        let start = segment.start as usize;
-        let end = start + segment.length as usize;
-        let base = segment.start;
-        progress = read_segment_entries(&area[start..end], base, entries, transactions, progress);
+        let bytes = fields::part(area, segment.start as usize, segment.length as usize);
+        progress = read_segment_entries(bytes, segment.start, entries, transactions, progress);
     }
     progress
 }

@@ -21,6 +21,7 @@ use Rattle.store.specs.Replay.{Replaying}
 use Rattle.ringwal.proofs.Views.{answer_once, opening_once, appending_once}
 use Rattle.refusal.specs.contracts.Refusal.number as refusal_number
 use Rattle.fields.specs.contracts.higher as higher
+use Rattle.fields.specs.contracts.part as part
 use Rattle.fields.specs.contracts.get_le as get_le
 use Rattle.fields.specs.contracts.get_u64 as get_u64
 use Rattle.fields.specs.contracts.put_le as put_le
@@ -127,6 +128,11 @@ module _ {M : Type 1} {𝓤 : Ura M} (𝓛 : Logic 𝓤) (mem : Memory → SProp
 
   pub higher_determined : Determined higher.ended (higher.clauses 𝓛 mem run)
   higher_determined κs a g r r' ws ws' = answer refl
+
+  -- of lent bytes that are answered, the bytes: where they stand isn't told
+  pub part_bytes_determined : (κs : Lfts part.ended.signature.lifetimes) (a : Args part.ended.signature κs) (g : (part.clauses 𝓛 mem run κs a).ghost) (r r' : Res part.ended.signature κs) (ws ws' : Lasts part.ended κs a)
+      → ent 𝓤 (sep 𝓤 ((part.clauses 𝓛 mem run κs a).ensures g r (at_exit part.ended κs a ws)) ((part.clauses 𝓛 mem run κs a).ensures g r' (at_exit part.ended κs a ws'))) (fact 𝓤 ((r.now ≡ r'.now) × (ws ≡ ws')))
+  part_bytes_determined κs a g r r' ws ws' = told 𝓤 (λ e f. (e ∙ sym f, refl))
 
   pub get_le_determined : Determined get_le.ended (get_le.clauses 𝓛 mem run)
   get_le_determined κs a g r r' ws ws' = answer refl

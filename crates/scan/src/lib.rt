@@ -1,8 +1,8 @@
 // The scan of a segment, one step at a time: the header and its payload are judged where they stand, nothing is copied.
 #![tactic(auto)]
 
-ghost use Rattle.std.specs.Prelude.{◌≡◌, ◌-◌, ◌≤◌, leb, length};
-ghost use Rattle.entry.specs.Decode.{bytes_at, end_of};
+ghost use Rattle.std.specs.Prelude.{◌≡◌, ◌-◌, ◌≤◌, leb};
+ghost use Rattle.entry.specs.Decode.{bytes_at};
 ghost use Rattle.scan.specs.Step.{judge_of, step_as, step_at};
 
 use entry::{Place, WalEntry, WalEntryHeader};
@@ -40,12 +40,9 @@ pub fn judge(header: WalEntryHeader, payload: &[u8]) -> Result<WalEntry, Damage>
 
 // The same where the payload stands, in the segment.
 fn judge_at(segment: &[u8], header: WalEntryHeader, payload: Place) -> Step
-    requires { end_of payload ≤ length segment.now }
     ensures { result ≡ step_as payload (judge_of header (bytes_at segment.now payload)) }
 {
-    let start = payload.start;
-    let end = payload.start + payload.len;
-    match judge(header, &segment[start..end]) {
+    match judge(header, fields::part(segment, payload.start, payload.len)) {
         Ok(entry) => Step::Entry { entry, payload },
         Err(Damage::WrongChecksum) => Step::WrongChecksum,
         Err(Damage::Undecodable) => Step::Undecodable { payload },

@@ -2,7 +2,7 @@
 -- Assumes nothing.
 use mathlib.Core.Path.{◌≡◌, refl}
 use mathlib.Core.List.{List}
-use Prim.Native.Nat.{ℕ, ◌+◌, ◌-◌, ◌/◌}
+use Prim.Native.Nat.{ℕ, ◌/◌}
 use native.Mathlib.Omega.{arith}
 use lib.ListN.{length, take, drop}
 use Rattle.entry.specs.Decode.{decode_of, content_at}
@@ -25,21 +25,16 @@ use Rattle.store.specs.Effect.{Effect, puts, drops, keeps, effect_of, effect_in}
 
 -- ---- what the code reads
 
--- the payload by its bounds in the area
-abbrev pub slice : (area : List ℕ) → EntryRecord → List ℕ
-slice area e = take (e.place + e.len - e.place) (drop e.place area)
+-- s is the payload, the entry's bytes of the area
+module _ (area : List ℕ) (e : EntryRecord) (s : List ℕ) (part : s ≡ take e.len (drop e.place area)) where
+  pub effect_read : (d : Decoded) → decode_of s ≡ Some d → effect_in area e ≡ effect_of (content_at s d.entry)
+  unfolding effect_in payload_in
+  effect_read d f = rw (← part, f)
 
-slice_is : (area : List ℕ) (e : EntryRecord) → slice area e ≡ payload_in area e
-unfolding payload_in
-slice_is area e = let n : e.place + e.len - e.place ≡ e.len = omega arith in rw n
-
-pub effect_read : (area : List ℕ) (e : EntryRecord) (d : Decoded) → decode_of (slice area e) ≡ Some d → effect_in area e ≡ effect_of (content_at (slice area e) d.entry)
-unfolding effect_in
-effect_read area e d s = rw (slice_is area e) (rw (rw (slice_is area e) at s))
-
--- a listed entry decodes
-pub not_refused : (area : List ℕ) (e : EntryRecord) → EntryIn area e → decode_of (slice area e) ≡ None → ⊥
-not_refused area e i d = let f = rw (← slice_is area e, d) at i.decodes in let z : ◌≡◌ {A = ℕ} 0 1 = cc in omega arith
+  -- a listed entry decodes
+  pub not_refused : EntryIn area e → decode_of s ≡ None → ⊥
+  unfolding payload_in
+  not_refused i f = let g = rw (← part, f) at i.decodes in let z : ◌≡◌ {A = ℕ} 0 1 = cc in omega arith
 
 -- markers change nothing
 pub marker_keeps : (s : List ℕ) (w : WalEntry) → ((tx : ℕ) × (time : ℕ) × (w ≡ Commit tx time)) ⊎ ((tx : ℕ) × (time : ℕ) × (w ≡ Abort tx time)) → effect_of (content_at s w) ≡ keeps

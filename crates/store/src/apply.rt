@@ -1,6 +1,6 @@
 // What an entry does to the table.
-ghost use Rattle.std.specs.Prelude.{◌≡◌, ◌≤◌, length};
-ghost use Rattle.entry.specs.Decode.{bytes_at, end_of};
+ghost use Rattle.std.specs.Prelude.{◌≡◌};
+ghost use Rattle.entry.specs.Decode.{bytes_at};
 ghost use Rattle.recovery.specs.Payload.{EntryIn};
 ghost use Rattle.table.specs.Change.{changing};
 ghost use Rattle.store.specs.Apply.{change_of};
@@ -12,12 +12,9 @@ use refusal::Refusal;
 
 // A key or a value, where it stands in its payload.
 fn bytes_at(payload: &[u8], place: Place) -> &[u8]
-    requires { end_of place ≤ length payload.now }
     ensures { result.now ≡ bytes_at payload.now place }
 {
-    let start = place.start;
-    let end = place.start + place.len;
-    &payload[start..end]
+    fields::part(payload, place.start, place.len)
 }
 
 // An entry that the recovery listed, applied among the first `rows` rows. Nothing is copied but into the table.
@@ -30,9 +27,7 @@ pub(crate) fn apply(
     requires { EntryIn area.now listed }
     ensures { changing result table.new ≡ change_of (effect_in area.now listed) table.old rows }
 {
-    let start = listed.place as usize;
-    let end = start + listed.len as usize;
-    let payload = &area[start..end];
+    let payload = fields::part(area, listed.place as usize, listed.len as usize);
     let Some(Decoded { entry, .. }) = entry::decode(payload) else {
         // Never taken: recovery lists no entry that doesn't decode.
         return Ok(rows);

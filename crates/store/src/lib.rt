@@ -17,10 +17,11 @@ mod apply;
 mod transactions;
 
 // What a refused recovery makes of the table: 1 and 2 change nothing, 6 and 7 leave it zero as they leave the lists.
+#[tactic(auto, unfolding(crate::specs::Replay::table_after))]
 fn leave_table(refusal: Refusal, table: &mut [u8])
     ensures { table.new ≡ table_after (number_of refusal) table.old }
 {
-    if 2 < refusal.number() {
+    if !matches!(refusal, Refusal::InvalidBuffer | Refusal::InvalidDirectory) {
         fields::bytes::clear(table);
     }
 }

@@ -3,14 +3,12 @@
 use mathlib.Core.Path.{◌≡◌, refl, ◌∙◌}
 use mathlib.Core.Bool.{true, and-eq-true_iff}
 use mathlib.Core.List.{List, ◌++◌, append_assoc}
-use Prim.Native.Nat.{ℕ, ◌+◌, ◌-◌, ◌≤◌, min}
+use Prim.Native.Nat.{ℕ, ◌+◌, ◌-◌, ◌≤◌}
 use native.Mathlib.Omega.{arith}
 use borrow.Author.Tests.{leb-true}
-use lib.Dec.{leb}
-use lib.ListN.{length, take, drop, replicate, length-append, length-take, length-drop, length-replicate, drop_of_length-le}
+use lib.ListN.{length, take, drop, replicate, length-append, length-take, length-drop, length-replicate}
 use lib.Seq.{sets, take_all, take_at, drop_at}
 use Rattle.fields.specs.Le.{le_bytes, num_at}
-use Rattle.fields.proofs.Cases.{case_b, tests}
 use Rattle.fields.proofs.Numbers.{length_bytes, num_front, num_skip}
 use Rattle.fields.proofs.Stores.{sets_join}
 use Rattle.table.specs.Row.{Row, row_of, fits, RowFits, padded, marked_bytes, row_bytes, empty_bytes, row_record_at, row_at}
@@ -60,30 +58,6 @@ unfolding empty_bytes
 empty_is = refl
 
 -- ---- the code of one record
-
--- of some bytes as many as there are
-take_there : (s : List ℕ) (n m : ℕ) → m ≡ min n (length s) → take m s ≡ take n s
-take_there s n m e =
-    case_b (leb n (length s))
-    (λ q. let f : m ≡ n = omega (arith, tests) in rw f)
-    (λ q.
-    let f : length s ≤ m = omega (arith, tests) in
-    let g : length s ≤ n = omega (arith, tests) in
-    rw (take_all m s f, take_all n s g))
-
--- of the bytes behind a place as many as there are, or none if the place is past the end
-pub part_there : (s : List ℕ) (at n start m : ℕ) → start ≡ min at (length s) → m ≡ min n (length (take (length s - start) (drop start s))) → take m (take (length s - start) (drop start s)) ≡ take n (drop at s)
-part_there s at n start m e f =
-    let w : length (drop start s) ≤ length s - start = rw length-drop (omega arith) in
-    let all : take (length s - start) (drop start s) ≡ drop start s = take_all (length s - start) (drop start s) w in
-    let rest : drop start s ≡ drop at s =
-    case_b (leb at (length s))
-    (λ q. let g : start ≡ at = omega (arith, tests) in rw g)
-    (λ q.
-    let g : length s ≤ start = omega (arith, tests) in
-    let h : length s ≤ at = omega (arith, tests) in
-    rw (drop_of_length-le s g, drop_of_length-le s h)) in
-    rw (all, rest) (take_there (drop at s) n m (rw (all, rest) at f))
 
 -- a part and the zeros behind it
 pub put_zeros : (s part : List ℕ) (at size : ℕ) → length part ≤ size → sets (sets s at part) (at + length part) (replicate (size - length part) 0) ≡ sets s at (padded size part)

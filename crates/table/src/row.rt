@@ -67,9 +67,7 @@ pub fn row_at(table: &[u8], k: usize) -> RowRecord
 pub(crate) fn key_in(row: &[u8]) -> &[u8]
     ensures { result.now ≡ (row_at row.now).key }
 {
-    let parts = &row[KEY.min(row.len())..];
-    let len = RowRecord::read(row).key_len;
-    &parts[..len.min(parts.len())]
+    fields::part(row, KEY, RowRecord::read(row).key_len)
 }
 
 // Writes a key or a value, and zeros up to its size.

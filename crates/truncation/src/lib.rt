@@ -1,11 +1,11 @@
 // Truncation by checkpoint.
 #![tactic(auto)]
 
-ghost use Rattle.std.specs.Prelude.{◌≡◌, ◌≤◌, length};
+ghost use Rattle.std.specs.Prelude.{◌≡◌, length};
 ghost use Rattle.refusal.specs.Answer.{sound};
 ghost use Rattle.scan.specs.Highest.{highest_of};
 ghost use Rattle.directory.specs.Image.{segment_bytes};
-ghost use Rattle.directory.specs.Record.{end_of, records_of};
+ghost use Rattle.directory.specs.Record.{records_of};
 ghost use Rattle.directory.specs.Rule.{test_of};
 ghost use Rattle.truncation.specs.Truncate.{is_below, kept_of, closed_up, truncating, truncate_of};
 
@@ -49,12 +49,9 @@ fn is_below(checkpoint: u64, max_tx_id: u64) -> bool
 
 // That of a segment of the directory, by its bytes in the area.
 fn max_tx_id(area: &[u8], segment: SegmentRecord) -> u64
-    requires { end_of segment ≤ length area.now }
     ensures { result ≡ highest_of (segment_bytes area.now segment) }
 {
-    let start = segment.start as usize;
-    let end = (segment.start + segment.length) as usize;
-    read_segment_max_tx_id(&area[start..end])
+    read_segment_max_tx_id(fields::part(area, segment.start as usize, segment.length as usize))
 }
 
 // "The kept records close up in order, the freed ones become zero": how many are kept. A record's new place is never behind

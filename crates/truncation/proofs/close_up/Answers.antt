@@ -2,19 +2,13 @@
 -- Assumes nothing.
 use mathlib.Core.Path.{◌∙◌}
 use native.Mathlib.Omega.{arith}
-use Rattle.directory.proofs.Sound.{sound_says, sound_ends}
+use Rattle.directory.proofs.Sound.{sound_says}
 use Rattle.truncation.proofs.Closing.{closing_start, closing_dropped, closing_kept, closing_end}
 use Rattle.truncation.proofs.close_up.Goals.{then-k-used, then-k-used-via-then-k-used, then-k-used-via-else-k-used+then-not-is_below, else-k-used+else-not-is_below}
 use Rattle.truncation.proofs.close_up.Goals as goal
 
 pub loop-k-init : goal.loop-k-init
 loop-k-init c = closing_start _ _ _ _
-
-pub max_tx_id-requires : goal.max_tx_id-requires
-max_tx_id-requires c =
-    let p = c.requires in
-    let l = c.loop-k in
-    rw (c.record_at-segment.ensures, l.invariant.unread) (sound_ends _ _ _ p l.k (omega arith))
 
 pub loop-k-preserved : goal.loop-k-preserved
 loop-k-preserved c =
