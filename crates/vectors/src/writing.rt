@@ -3,11 +3,24 @@ use super::readings::LOG;
 use super::tally::Tally;
 use payload::kind::Kind;
 use refusal::Refusal;
-use segment::SegmentManager;
+use segment::{Appending, SegmentManager};
 
 // The refusal's number, or 0.
 pub(crate) fn number_of<A: Drop>(answer: Result<A, Refusal>) -> u64 {
     answer.err().map_or(0, |refusal| refusal.number())
+}
+
+// An entry of number 1 at time 5, into a directory of one record.
+fn append(
+    manager: SegmentManager,
+    area: &mut [u8],
+    directory: &mut [u8],
+    lsn: u64,
+    kind: Kind,
+    key: &[u8],
+    value: &[u8],
+) -> Appending {
+    manager.append(area, directory, 1, lsn, kind as u64, 1, 5, key, b"", value)
 }
 
 // "Insert number 1 of key `a`, one value byte .. Followed by its commit, 84 bytes", by the entry call.
@@ -15,39 +28,30 @@ fn log_of_two(t: Tally) -> Tally {
     let mut area = [0u8; 84];
     let mut directory = [0u8; 24];
     let opened = SegmentManager::new(1024).open(&area, &mut directory, 0);
-    let insert = opened.manager.append(
+    let insert = append(
+        opened.manager,
         &mut area,
         &mut directory,
         1,
-        1,
-        Kind::Insert as u64,
-        1,
-        5,
+        Kind::Insert,
         b"a",
-        b"",
         b"\x09",
     );
-    let commit = insert.manager.append(
+    let commit = append(
+        insert.manager,
         &mut area,
         &mut directory,
-        1,
         2,
-        Kind::Commit as u64,
-        1,
-        5,
-        b"",
+        Kind::Commit,
         b"",
         b"",
     );
-    let full = commit.manager.append(
+    let full = append(
+        commit.manager,
         &mut area,
         &mut directory,
-        1,
         3,
-        Kind::Commit as u64,
-        1,
-        5,
-        b"",
+        Kind::Commit,
         b"",
         b"",
     );
