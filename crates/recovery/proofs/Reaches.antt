@@ -136,9 +136,6 @@ pub record ReadingOn (start : Reached) (at : Reached) (area directory : List ℕ
   pub partial : at.partial ≤ k
   pub checksum : at.checksum ≤ k
 
-pub reading_starts : (start : Reached) (area directory : List ℕ) (used : ℕ) → start.partial ≡ 0 → start.checksum ≡ 0 → ReadingOn start start area directory used 0
-reading_starts start area directory used p c = let z : used - 0 ≡ used = omega arith in record { same = rw z refl; entries = refl; transactions = refl; partial = omega arith; checksum = omega arith }
-
 pub segment_lengths : (at : Reached) (base : ℕ) (s : Reading) → SameLengths (reach_segment at base s).book at.book
 unfolding reach_segment
 segment_lengths at base s = admit_all_lengths at.book (listed_from base s.good)
