@@ -40,10 +40,15 @@ pub(crate) fn read<'a>(word: &[u8], room: &mut &'a mut [u8]) -> Option<&'a [u8]>
     Some(bytes)
 }
 
+// By sums and no table, so that the compiler spells several bytes at once.
 fn digit(value: u8) -> u8
     requires { value ≤ 15 }
 {
-    b"0123456789abcdef"[usize::from(value)]
+    if value < 10 {
+        b'0' + value
+    } else {
+        b'a' + (value - 10)
+    }
 }
 
 fn print_part(rt: &impl Print, bytes: &[u8]) -> io::Result<()>

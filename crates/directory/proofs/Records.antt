@@ -39,13 +39,14 @@ record_held s b =
     record { id = num_below s 0 8 8 (omega arith) b; start = num_below s 8 8 8 (omega arith) b; length = num_below s 16 8 8 (omega arith) b }
 
 -- three numbers one after the other are a record
-pub put_three : (r : SegmentRecord) (s : List ℕ) → sets (sets (sets s 0 (le_bytes 8 r.id)) 8 (le_bytes 8 r.start)) 16 (le_bytes 8 r.length) ≡ sets s 0 (record_bytes r)
+pub put_three : (r : SegmentRecord) (s : List ℕ) (at : ℕ) → sets (sets (sets s at (le_bytes 8 r.id)) (at + 8) (le_bytes 8 r.start)) (at + 16) (le_bytes 8 r.length) ≡ sets s at (record_bytes r)
 unfolding record_bytes
-put_three r s =
+put_three r s at =
     let i = le_bytes 8 r.id in
     let t = le_bytes 8 r.start in
     let l = le_bytes 8 r.length in
-    sets_join (sets s 0 i) t l 8 16 (rw length_bytes (omega arith)) ∙ sets_join s i (t ++ l) 0 8 (rw length_bytes)
+    sets_join (sets s at i) t l (at + 8) (at + 16) (rw length_bytes (omega arith))
+    ∙ sets_join s i (t ++ l) at (at + 8) (rw length_bytes)
 
 -- ---- the records of the bytes
 

@@ -1,4 +1,6 @@
 // Lines into the log. A function that may print has the error of the write that failed, and the log stays as it then is.
+ghost use Rattle.std.specs.Prelude.{◌≡◌, ◌+◌, ◌≤◌};
+
 use payload::kind::Kind;
 use refusal::Refusal;
 use segment::SegmentManager;
@@ -34,7 +36,9 @@ fn setting_in(text: &[u8]) -> Option<Setting<'_>> {
 
 impl<'a> Logger<'a> {
     // An empty log with its first segment.
-    pub(crate) fn open(area: &'a mut [u8], directory: &'a mut [u8]) -> Logger<'a> {
+    pub(crate) fn open(area: &'a mut [u8], directory: &'a mut [u8]) -> Logger<'a>
+        ensures { result.logged ≡ 0 }
+    {
         let opening = SegmentManager::with_default_size().open(area, directory, 0);
         Logger {
             manager: opening.manager,
@@ -47,7 +51,9 @@ impl<'a> Logger<'a> {
     }
 
     // One entry more, or the refusal.
-    fn append(&mut self, kind: Kind, line: u64, setting: Setting) -> Result<(), Refusal> {
+    fn append(&mut self, kind: Kind, line: u64, setting: Setting) -> Result<(), Refusal>
+        ensures { self.new.logged ≤ self.old.logged + 1 }
+    {
         // No input has lines enough to reach the most.
         let lsn = self.logged.saturating_add(1);
         let area = &mut *self.area;
@@ -71,7 +77,9 @@ impl<'a> Logger<'a> {
     }
 
     // A line's insert and its commit.
-    fn log(&mut self, line: u64, setting: Setting) -> Result<(), Refusal> {
+    fn log(&mut self, line: u64, setting: Setting) -> Result<(), Refusal>
+        ensures { self.new.logged ≤ self.old.logged + 2 }
+    {
         self.append(Kind::Insert, line, setting)?;
         let none = Setting {
             key: b"",

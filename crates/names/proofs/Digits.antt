@@ -140,6 +140,11 @@ unfolding value_after
 value_append v [] ys = refl
 value_append v (x ∷ xs) ys = value_append (10 * v + (x - 48)) xs ys
 
+pub value_grows : (v : ℕ) (ds : List ℕ) → v ≤ value_after v ds
+unfolding value_after
+value_grows v [] = omega arith
+value_grows v (d ∷ ds) = omega (arith, value_grows (10 * v + (d - 48)) ds)
+
 value_zeros : (k : ℕ) (ds : List ℕ) → value_of (replicate k (byte_of 0) ++ ds) ≡ value_of ds
 unfolding value_after
 value_zeros zero ds = refl

@@ -4,7 +4,7 @@
 ghost use Rattle.std.specs.Prelude.{◌≡◌};
 ghost use Rattle.fields.specs.Order.{same_bytes};
 ghost use Rattle.std.specs.Option.{option_copied};
-ghost use Rattle.names.specs.Name.{name_of, naming, name_into, text_of, read_of};
+ghost use Rattle.names.specs.Name.{name_of, naming, name_into, text_of, without_plus, read_of};
 
 use refusal::Refusal;
 
@@ -57,12 +57,18 @@ fn is_kept(name: &[u8], id: u64) -> bool
     name == &written[..n]
 }
 
-// Reads the id out of a file's name: std's `parse` takes "one or more digits with an optional leading `+`, below 2^64".
+// The text without a leading `+`.
+fn unsigned(text: &[u8]) -> &[u8]
+    ensures { result.now ≡ without_plus text.now }
+{
+    text.strip_prefix(b"+").unwrap_or(text)
+}
+
+// Reads the id out of a file's name.
 pub fn parse_segment_name(name: &[u8]) -> Option<Parsed>
     ensures { result ≡ read_of name.now }
 {
-    let text = str::from_utf8(between(name)?).ok()?;
-    let id = text.parse::<u64>().ok()?;
+    let id = decimal::parse(unsigned(between(name)?))?;
     let kept = is_kept(name, id);
     Some(Parsed { id, kept })
 }

@@ -155,7 +155,7 @@ pub refused : (content : Option Content) (tx time : ℕ) (before : List ℕ) →
 unfolding encode_of
 refused content tx time before e = rw e
 
-accepted : (content : Content) (tx time : ℕ) (before after : List ℕ) (r : Result ℕ EncodeError) → well_formed content ≡ true → encoding r after ≡ put_of (payload_of tx time content) before → encoding r after ≡ encode_of (some content) tx time before
+pub accepted : (content : Content) (tx time : ℕ) (before after : List ℕ) (r : Result ℕ EncodeError) → well_formed content ≡ true → encoding r after ≡ put_of (payload_of tx time content) before → encoding r after ≡ encode_of (some content) tx time before
 unfolding encode_of
 accepted content tx time before after r e p = rw e p
 

@@ -3,14 +3,15 @@
 use mathlib.Core.Path.{◌≡◌, refl, ◌∙◌}
 use mathlib.Core.Bool.{true, and-eq-true_iff}
 use mathlib.Core.List.{List, ◌++◌, append_assoc}
-use Prim.Native.Nat.{ℕ, ◌+◌, ◌-◌, ◌≤◌}
+use Prim.Native.Nat.{ℕ, ◌+◌, ◌-◌, ◌<◌, ◌≤◌}
 use native.Mathlib.Omega.{arith}
 use borrow.Author.Tests.{leb-true}
 use lib.ListN.{length, take, drop, replicate, length-append, length-take, length-drop, length-replicate}
 use lib.Seq.{sets, take_all, take_at, drop_at}
-use Rattle.fields.specs.Le.{le_bytes, num_at}
-use Rattle.fields.proofs.Numbers.{length_bytes, num_front, num_skip}
+use Rattle.fields.specs.Le.{Bytes, le_bytes, num_at}
+use Rattle.fields.proofs.Numbers.{length_bytes, num_front, num_skip, num_below, bytes_drop}
 use Rattle.fields.proofs.Stores.{sets_join}
+use Rattle.table.specs.declared.row.RowRecord.{RowRecord}
 use Rattle.table.specs.Row.{Row, row_of, fits, RowFits, padded, marked_bytes, row_bytes, empty_bytes, row_record_at, row_at}
 
 pub fits_true : (r : Row) → fits r ≡ true → RowFits r
@@ -58,6 +59,11 @@ unfolding empty_bytes
 empty_is = refl
 
 -- ---- the code of one record
+
+-- a key length is one byte
+pub key_short : (s : List ℕ) (at : ℕ) (r : RowRecord) → r ≡ row_record_at (drop at s) → Bytes s → r.key_len < 256
+unfolding row_record_at
+key_short s at r e b = rw e (num_below (drop at s) 1 1 1 (omega arith) (bytes_drop at s b))
 
 -- a part and the zeros behind it
 pub put_zeros : (s part : List ℕ) (at size : ℕ) → length part ≤ size → sets (sets s at part) (at + length part) (replicate (size - length part) 0) ≡ sets s at (padded size part)

@@ -67,7 +67,12 @@ pub fn row_at(table: &[u8], k: usize) -> RowRecord
 pub(crate) fn key_in(row: &[u8]) -> &[u8]
     ensures { result.now ≡ (row_at row.now).key }
 {
-    fields::part(row, KEY, RowRecord::read(row).key_len)
+    let len = RowRecord::read(row).key_len;
+    if row.len() < RowRecord::SIZE {
+        return fields::part(row, KEY, len);
+    }
+    // Sliced without a clamp, which a search feels: a key length is one byte, so the key lies in its whole record.
+    &row[KEY..KEY + len]
 }
 
 // Writes a key or a value, and zeros up to its size.

@@ -4,4 +4,4 @@ use Rattle.directory.proofs.Records.{put_three}
 use Rattle.directory.proofs.record.SegmentRecordWholeRecord.write.Goals as goal
 
 pub returns : goal.returns
-returns c = cc (put_three c.args.self c.args.bytes.now)
+returns c = cc (put_three c.args.self c.args.bytes.now 0)
